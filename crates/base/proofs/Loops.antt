@@ -1,0 +1,275 @@
+-- Counted loops: one invariant for all of them, and what `all`, `any`, `count` and `lowest` tell of each number.
+use Prim.Native.Nat.{ℕ, zero, suc, _+_, _-_, _≤_, _<_, zero-le}
+use native.Mathlib.Omega.{arith}
+use native.Mathlib.Nat.{le-refl}
+use mathlib.Core.Path.{_≡_, refl, sym, ap, _∙_}
+use mathlib.Core.Bool.{Bool, true, false, _&&_, _||_, false≢true}
+use mathlib.Core.List.{List, [], _∷_, _++_, append-assoc, append-nil, map}
+use lib.Dec.{ltb, lit≤}
+use lib.ListN.{length, getD, set, drop, length-append, length-drop, length-map}
+use lib.Seq.{drop-cons, set-at, getD-at, drop-length, getD-set-same, getD-set-other, ext-getD}
+use lib.ListN.{List·getD-append, List·getD-map}
+use native.Mathlib.Decide.{decLt}
+use native.Mathlib.Numerals.{add-one}
+use mir.Val.{boolByte}
+use borrow.Author.Tests.{lt-ltb, le-ltb, ltb-true, ltb-false}
+use Rattle.base.specs.Choice.{if_then_else_}
+use Rattle.base.specs.Below.{allBelow, anyBelow, countBelow, lowestBelow, tabulate}
+use Rattle.base.proofs.Choices.{and-left, and-right, either}
+
+-- A loop's invariant: x is f of the i turns done, of n.
+abbrev pub Upto : {A : Type 0} → (ℕ → A) → ℕ → A → ℕ → Type 0
+Upto f n x i = (i ≤ n) × (x ≡ f i)
+
+upto-done : {A : Type 0} (f : ℕ → A) (n : ℕ) (x : A) (i : ℕ) → Upto f n x i → n ≤ i → x ≡ f n
+upto-done f n x i u h = u .1 ∙ ap f (omega arith)
+
+only : (i n : ℕ) → i < suc n → (i < n → ⊥) → i ≡ n
+only i n h q = omega arith
+
+-- ---- all
+
+all-none : (p : ℕ → Bool) → true ≡ allBelow p 0
+unfolding allBelow
+all-none p = refl
+
+all-more : (p : ℕ → Bool) (i : ℕ) → allBelow p (i + 1) ≡ (allBelow p i && p i)
+unfolding allBelow
+all-more p i = rw add-one
+
+pub all-at : (p : ℕ → Bool) (n i : ℕ) → allBelow p n ≡ true → i < n → p i ≡ true
+unfolding allBelow
+all-at p zero i e h = absurd (omega arith)
+all-at p (suc n) i e h =
+    elim (decLt i n) [
+      | yes q ↦ all-at p n i (and-left (allBelow p n) (p n) e) q
+      | no q ↦ rw (only i n h q) (and-right (allBelow p n) (p n) e)
+    ]
+
+pub all-each : (p : ℕ → Bool) (n : ℕ) → ((i : ℕ) → i < n → p i ≡ true) → allBelow p n ≡ true
+unfolding allBelow
+all-each p zero f = refl
+all-each p (suc n) f = rw (all-each p n (λ i h. f i (omega arith)), f n (omega arith))
+
+-- two tests that agree below n
+pub all-same : (p q : ℕ → Bool) (n : ℕ) → ((i : ℕ) → i < n → p i ≡ q i) → allBelow p n ≡ allBelow q n
+unfolding allBelow
+all-same p q zero f = refl
+all-same p q (suc n) f = rw (all-same p q n (λ i h. f i (omega arith)), f n (omega arith))
+
+pub all-start : (p : ℕ → Bool) (n : ℕ) → Upto (allBelow p) n true 0
+all-start p n = (zero-le, all-none p)
+
+pub all-done : (p : ℕ → Bool) (n : ℕ) (x : Bool) (i : ℕ) → Upto (allBelow p) n x i → n ≤ i → x ≡ allBelow p n
+all-done p = upto-done (allBelow p)
+
+pub upto-all : (p : ℕ → Bool) (n : ℕ) (x r : Bool) (i : ℕ) → Upto (allBelow p) n x i → i < n → r ≡ p i → Upto (allBelow p) n (x && r) (i + 1)
+upto-all p n x r i u h e = (omega arith, rw (u .1, e, all-more p i))
+
+-- ---- any
+
+any-none : (p : ℕ → Bool) → false ≡ anyBelow p 0
+unfolding anyBelow
+any-none p = refl
+
+any-more : (p : ℕ → Bool) (i : ℕ) → anyBelow p (i + 1) ≡ (anyBelow p i || p i)
+unfolding anyBelow
+any-more p i = rw add-one
+
+pub any-start : (p : ℕ → Bool) (n : ℕ) → Upto (anyBelow p) n false 0
+any-start p n = (zero-le, any-none p)
+
+pub any-done : (p : ℕ → Bool) (n : ℕ) (x : Bool) (i : ℕ) → Upto (anyBelow p) n x i → n ≤ i → x ≡ anyBelow p n
+any-done p = upto-done (anyBelow p)
+
+pub upto-any : (p : ℕ → Bool) (n : ℕ) (x r : Bool) (i : ℕ) → Upto (anyBelow p) n x i → i < n → r ≡ p i → Upto (anyBelow p) n (x || r) (i + 1)
+upto-any p n x r i u h e = (omega arith, rw (u .1, e, any-more p i))
+
+-- ---- count
+
+count-none : (p : ℕ → Bool) → 0 ≡ countBelow p 0
+unfolding countBelow
+count-none p = refl
+
+pub byte-small : (b : Bool) → boolByte b ≤ 1
+byte-small true = lit≤ tt
+byte-small false = lit≤ tt
+
+one-more : (b : Bool) (n : ℕ) → n + boolByte b ≡ if b then suc n else n
+unfolding if_then_else_
+one-more true n = add-one n
+one-more false n = omega arith
+
+count-more : (p : ℕ → Bool) (i : ℕ) → countBelow p (i + 1) ≡ countBelow p i + boolByte (p i)
+unfolding countBelow
+count-more p i = rw add-one (sym (one-more (p i) (countBelow p i)))
+
+pub count-le : (p : ℕ → Bool) (n : ℕ) → countBelow p n ≤ n
+unfolding countBelow
+count-le p zero = zero-le
+count-le p (suc n) = either (λ m. m ≤ suc n) (p n) (λ _. omega (arith, count-le p n)) (λ _. omega (arith, count-le p n))
+
+-- a number that p holds of is counted
+pub count-some : (p : ℕ → Bool) (n i : ℕ) → i < n → p i ≡ true → 1 ≤ countBelow p n
+unfolding countBelow
+count-some p zero i h e = absurd (omega arith)
+count-some p (suc n) i h e =
+    either (λ m. 1 ≤ m) (p n) (λ _. omega arith)
+    (λ f. elim (decLt i n) [
+      | yes q ↦ count-some p n i q e
+      | no q ↦ absurd (false≢true (sym f ∙ rw (← only i n h q) e))
+    ])
+
+pub count-start : (p : ℕ → Bool) (n : ℕ) → Upto (countBelow p) n 0 0
+count-start p n = (zero-le, count-none p)
+
+pub count-done : (p : ℕ → Bool) (n x i : ℕ) → Upto (countBelow p) n x i → n ≤ i → x ≡ countBelow p n
+count-done p = upto-done (countBelow p)
+
+pub upto-count : (p : ℕ → Bool) (n x i : ℕ) (r : Bool) → Upto (countBelow p) n x i → i < n → r ≡ p i → Upto (countBelow p) n (x + boolByte r) (i + 1)
+upto-count p n x i r u h e = (omega arith, rw (u .1, e, count-more p i))
+
+-- ---- lowest
+
+pub lowest-le : (p : ℕ → Bool) (n : ℕ) → lowestBelow p n ≤ n
+unfolding lowestBelow
+lowest-le p zero = zero-le
+lowest-le p (suc n) = either (λ m. m ≤ suc n) (ltb (lowestBelow p n) n) (λ _. omega (arith, lowest-le p n)) (λ _. either (λ m. m ≤ suc n) (p n) (λ _. omega arith) (λ _. le-refl (suc n)))
+
+-- a search that has found nothing before i goes on
+pub search-start : (p : ℕ → Bool) (n : ℕ) → Upto (lowestBelow p) n 0 0
+unfolding lowestBelow
+search-start p n = (zero-le, refl)
+
+pub search-more : (p : ℕ → Bool) (n i : ℕ) → Upto (lowestBelow p) n i i → i < n → p i ≡ false → Upto (lowestBelow p) n (i + 1) (i + 1)
+unfolding lowestBelow if_then_else_
+search-more p n i u h e = (omega arith, rw (add-one, ← u .1, le-ltb i i (le-refl i), e))
+
+-- and ends where p holds
+found : (p : ℕ → Bool) (i k : ℕ) → lowestBelow p i ≡ i → p i ≡ true → lowestBelow p (suc (k + i)) ≡ i
+unfolding lowestBelow if_then_else_
+found p i zero u e = rw (zero-plus i, u, le-ltb i i (le-refl i), e)
+  where
+    zero-plus : (m : ℕ) → 0 + m ≡ m
+    zero-plus m = omega arith
+found p i (suc k) u e = rw (suc-plus k i, found p i k u e, lt-ltb i (suc (k + i)) (omega arith))
+  where
+    suc-plus : (a b : ℕ) → suc a + b ≡ suc (a + b)
+    suc-plus a b = omega arith
+
+pub search-found : (p : ℕ → Bool) (n i : ℕ) → Upto (lowestBelow p) n i i → i < n → p i ≡ true → i ≡ lowestBelow p n
+search-found p n i u h e =
+    let k : n ≡ suc ((n - suc i) + i) = omega arith in
+    rw k (sym (found p i (n - suc i) (sym (u .1)) e))
+
+pub search-done : (p : ℕ → Bool) (n i : ℕ) → Upto (lowestBelow p) n i i → n ≤ i → n ≡ lowestBelow p n
+search-done p n i u h =
+    let q : n ≡ i = omega arith in
+    q ∙ upto-done (lowestBelow p) n i i u h
+
+-- one more to search: what was found stays found, and the last may be it
+pub lowest-next : (p : ℕ → Bool) (n : ℕ) → lowestBelow p n < n → lowestBelow p (n + 1) < n + 1
+unfolding lowestBelow if_then_else_
+lowest-next p n h = rw (add-one, lt-ltb _ _ h) (omega arith)
+
+pub lowest-here : (p : ℕ → Bool) (n : ℕ) → p n ≡ true → lowestBelow p (n + 1) < n + 1
+unfolding lowestBelow
+lowest-here p n e =
+    rw add-one
+    (either (λ m. m < suc n) (ltb (lowestBelow p n) n) (λ g. omega (arith, ltb-true (lowestBelow p n) n g))
+    (λ _. either (λ m. m < suc n) (p n) (λ _. omega arith) (λ g. absurd (false≢true (sym g ∙ e)))))
+
+-- what was found is so, and nothing before it
+pub lowest-is : (p : ℕ → Bool) (n : ℕ) → lowestBelow p n < n → p (lowestBelow p n) ≡ true
+unfolding lowestBelow
+lowest-is p zero h = absurd (omega arith)
+lowest-is p (suc n) h =
+    either (λ m. m < suc n → p m ≡ true) (ltb (lowestBelow p n) n) (λ e _. lowest-is p n (ltb-true _ _ e))
+    (λ _. either (λ m. m < suc n → p m ≡ true) (p n) (λ e _. e) (λ _ g. absurd (omega arith))) h
+
+pub lowest-before : (p : ℕ → Bool) (n i : ℕ) → i < lowestBelow p n → p i ≡ false
+unfolding lowestBelow
+lowest-before p zero i h = absurd (omega arith)
+lowest-before p (suc n) i h =
+    either (λ m. i < m → p i ≡ false) (ltb (lowestBelow p n) n) (λ _ g. lowest-before p n i g)
+    (λ e. either (λ m. i < m → p i ≡ false) (p n) (λ _ g. lowest-before p n i (omega (arith, ltb-false (lowestBelow p n) n e)))
+    (λ f g. elim (decLt i n) [
+      | yes q ↦ lowest-before p n i (omega (arith, ltb-false (lowestBelow p n) n e))
+      | no q ↦ rw (only i n g q) f
+    ])) h
+
+-- where p holds, the lowest is not above
+pub lowest-at : (p : ℕ → Bool) (n j : ℕ) → p j ≡ true → lowestBelow p n ≤ j
+lowest-at p n j e =
+    elim (decLt j (lowestBelow p n)) [
+      | yes q ↦ absurd (false≢true (sym (lowest-before p n j q) ∙ e))
+      | no q ↦ omega arith
+    ]
+
+-- two tests that agree below n
+pub lowest-same : (p q : ℕ → Bool) (n : ℕ) → ((i : ℕ) → i < n → p i ≡ q i) → lowestBelow p n ≡ lowestBelow q n
+unfolding lowestBelow
+lowest-same p q zero f = refl
+lowest-same p q (suc n) f = rw (lowest-same p q n (λ i h. f i (omega arith)), f n (omega arith))
+
+-- nothing below n
+pub lowest-none : (p : ℕ → Bool) (n : ℕ) → ((i : ℕ) → i < n → p i ≡ false) → lowestBelow p n ≡ n
+unfolding lowestBelow if_then_else_
+lowest-none p zero f = refl
+lowest-none p (suc n) f = rw (lowest-none p n (λ i h. f i (omega arith)), le-ltb n n (le-refl n), f n (omega arith))
+
+-- ---- tabulate
+
+pub tabulate-length : {A : Type 0} (f : ℕ → A) (n : ℕ) → length (tabulate f n) ≡ n
+unfolding tabulate
+tabulate-length f zero = refl
+tabulate-length f (suc n) = length-append (tabulate f n) (f n ∷ []) ∙ omega (arith, tabulate-length f n)
+
+pub tabulate-at : {A : Type 0} (f : ℕ → A) (d : A) (n i : ℕ) → i < n → getD (tabulate f n) i d ≡ f i
+unfolding tabulate
+tabulate-at f d zero i h = absurd (omega arith)
+tabulate-at f d (suc n) i h =
+    elim (decLt i n) [
+      | yes q ↦ List·getD-append (tabulate f n) (f n ∷ []) d i (omega (arith, tabulate-length f n)) ∙ tabulate-at f d n i q
+      | no q ↦ rw (only i n h q) (getD-at (tabulate f n) (f n) [] d n (tabulate-length f n))
+    ]
+
+-- an array that a loop fills from the front: the first i are f of each, the others as they were
+abbrev pub Filled : {A : Type 0} → (ℕ → A) → List A → List A → ℕ → Type 0
+Filled f l xs i = (i ≤ length l) × (xs ≡ tabulate f i ++ drop i l)
+
+pub filled-start : {A : Type 0} (f : ℕ → A) (l : List A) → Filled f l l 0
+unfolding tabulate
+filled-start f l = (zero-le, refl)
+
+pub filled-more : {A : Type 0} (f : ℕ → A) (l xs : List A) (i : ℕ) (y : A) → Filled f l xs i → i < length l → y ≡ f i → Filled f l (set xs i y) (i + 1)
+unfolding tabulate
+filled-more f l xs i y u h e =
+    (omega arith, rw (u .1, add-one i, drop-cons l i y h, set-at (tabulate f i) (getD l i y) (drop (suc i) l) y i (tabulate-length f i), e, append-assoc))
+
+pub filled-done : {A : Type 0} (f : ℕ → A) (l xs : List A) (n i : ℕ) → Filled f l xs i → length l ≡ n → n ≤ i → xs ≡ tabulate f n
+filled-done f l xs n i u h g =
+    let q : i ≡ length l = omega arith in
+    u .1 ∙ rw (q, drop-length, append-nil, h)
+
+-- reading it on the way
+pub filled-length : {A : Type 0} (f : ℕ → A) (l xs : List A) (i : ℕ) → Filled f l xs i → length xs ≡ length l
+filled-length f l xs i u = ap length (u .1) ∙ simp (length-append, tabulate-length, length-drop) (omega arith)
+
+-- f of each element
+pub map-tabulate : {A B : Type 0} (f : A → B) (l : List A) (d : A) → map f l ≡ tabulate (λ i. f (getD l i d)) (length l)
+map-tabulate f l d =
+    ext-getD (f d) (map f l) (tabulate (λ i. f (getD l i d)) (length l)) (length-map l f ∙ sym (tabulate-length (λ i. f (getD l i d)) (length l)))
+    (λ i h. List·getD-map f l i d ∙ sym (tabulate-at (λ j. f (getD l j d)) (f d) (length l) i (omega (arith, length-map l f))))
+
+-- what holds of each place before i still does once place i is set, and of that too
+pub set-more : {A : Type 0} (P : ℕ → A → Type 0) (d : A) (l : List A) (i : ℕ) (y : A) → i < length l → ((j : ℕ) → j < i → P j (getD l j d)) → P i y → (j : ℕ) → j < i + 1 → P j (getD (set l i y) j d)
+set-more P d l i y h f p j g =
+    elim (decLt j i) [
+      | yes q ↦ rw (getD-set-other l i j y d (λ e. omega arith)) (f j q)
+      | no q ↦ rw (only j i (omega arith) q, getD-set-same l i y d h) p
+    ]
+
+-- ---- the length of an array in a struct, which is known of its elements as they lie in memory
+pub unmapped : {A B : Type 0} (f : A → B) (l : List A) (n : ℕ) → length (map f l) ≡ n → length l ≡ n
+unmapped f l n e = sym (length-map l f) ∙ e

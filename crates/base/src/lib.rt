@@ -1,0 +1,1 @@
+// Choices and counted loops, as specifications and proofs of every other crate cite them.

@@ -1,0 +1,1 @@
+// No code: the exam's marked cases, computed from the definitions.

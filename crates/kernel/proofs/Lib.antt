@@ -1,0 +1,5 @@
+pub mod Pick
+pub mod Whole
+pub mod Step
+pub mod Accepted
+pub mod Tasks

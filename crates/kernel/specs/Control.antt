@@ -1,0 +1,98 @@
+-- A task, its slot in the table, and the stretch of the arena that is its stack (task/control.rs).
+use Prim.Native.Nat.{ℕ, _+_, _-_, _*_, _/_, _%_}
+use mathlib.Core.Bool.{Bool, true, false, _&&_, not}
+use mathlib.Core.List.{List, [], _∷_, _++_}
+use lib.Dec.{eqb, leb, ltb}
+use lib.IntN.{pos}
+use lib.ListN.{length, getD, take, drop, replicate}
+use Rattle.base.specs.Choice.{if_then_else_, every}
+use Rattle.base.specs.Below.{allBelow, lowestBelow}
+use Rattle.kernel.specs.Types.{TaskId, Priority, OptionTaskId, None, Some, TaskState, Ready, Running, Blocked, Sleeping, Suspended, Terminated, StackRegion, TaskControl}
+use Rattle.kernel.specs.Update.{withState}
+
+-- ---- states and ids
+
+abbrev pub stateNumber : TaskState → ℕ
+stateNumber Ready = 0
+stateNumber Running = 1
+stateNumber Blocked = 2
+stateNumber Sleeping = 3
+stateNumber Suspended = 4
+stateNumber Terminated = 5
+
+-- the state of a number up to 5
+unfoldable pub stateOf : ℕ → TaskState
+stateOf n =
+    if eqb n 0 then Ready
+    else if eqb n 1 then Running
+    else if eqb n 2 then Blocked
+    else if eqb n 3 then Sleeping
+    else if eqb n 4 then Suspended
+    else Terminated
+
+abbrev pub inState : TaskState → TaskControl → Bool
+inState s t = eqb (stateNumber (t .state)) (stateNumber s)
+
+abbrev pub sameId : TaskId → TaskId → Bool
+sameId a b = eqb (a .0) (b .0)
+
+-- it is some id, and that one
+abbrev pub names : OptionTaskId → TaskId → Bool
+names None a = false
+names (Some b) a = eqb (b .0) (a .0)
+
+-- ---- the slot
+
+-- what an emptied slot is, all zero; a slot that is not occupied may hold anything
+abbrev pub blankSlot : TaskControl
+blankSlot = record { occupied = false; id = record { 0 = 0 }; state = Ready; priority = record { 0 = 0 }; «wake_tick» = 0; «time_slice» = 0; «remaining_slice» = 0; «owned_mutex_count» = 0; waiter = None; stack = record { start = 0; size = 0 }; sp = 0; result = pos 0 }
+
+-- `TaskControl::new`
+abbrev pub newTask : TaskId → Priority → StackRegion → TaskControl
+newTask i p r = record { occupied = true; id = i; state = Ready; priority = p; «wake_tick» = 0; «time_slice» = 5; «remaining_slice» = 5; «owned_mutex_count» = 0; waiter = None; stack = r; sp = r .start + r .size; result = pos 0 }
+
+-- the slot is occupied, by a task in that state
+unfoldable pub holdsTask : TaskState → TaskControl → Bool
+holdsTask s t = t .occupied && inState s t
+
+-- Blocked becomes Ready, anything else stays
+unfoldable pub unblocked : TaskControl → TaskControl
+unblocked t = if inState Blocked t then withState Ready t else t
+
+-- ---- the region, and the arena's words under it
+
+abbrev pub paint : ℕ
+paint = 0xDEADBEEF
+
+abbrev pub regionEnd : StackRegion → ℕ
+regionEnd r = r .start + r .size
+
+-- multiples of 4, at least 16 bytes long, inside an arena of that many words
+unfoldable pub regionFits : ℕ → StackRegion → Bool
+regionFits words r = every (eqb (r .start % 4) 0 ∷ eqb (r .size % 4) 0 ∷ leb 16 (r .size) ∷ leb (regionEnd r) (4 * words) ∷ [])
+
+unfoldable pub regionsOverlap : StackRegion → StackRegion → Bool
+regionsOverlap r s = ltb (r .start) (regionEnd s) && ltb (s .start) (regionEnd r)
+
+-- the region painted, the words outside kept
+unfoldable pub painted : StackRegion → List ℕ → List ℕ
+painted r arena = take (r .start / 4) arena ++ (replicate (r .size / 4) paint ++ drop (r .start / 4 + r .size / 4) arena)
+
+abbrev pub stackWords : StackRegion → List ℕ → List ℕ
+stackWords r arena = take (r .size / 4) (drop (r .start / 4) arena)
+
+-- `count_prefix_u32`: how many words are painted before the first that is not
+unfoldable pub countPrefix : List ℕ → ℕ
+countPrefix words = lowestBelow (λ i. not (eqb (getD words i 0) paint)) (length words)
+
+-- size less 4 for each leading painted word
+abbrev pub stackUsed : StackRegion → List ℕ → ℕ
+stackUsed r arena = r .size - 4 * countPrefix (stackWords r arena)
+
+-- `stack_guard_ok`: the region's first four words are all painted
+unfoldable pub stackGuardOk : StackRegion → List ℕ → Bool
+stackGuardOk r arena = allBelow (λ i. eqb (getD arena (r .start / 4 + i) 0) paint) 4
+
+-- `stack_sp_in_range`: not below the start, and below the end
+unfoldable pub spInRange : StackRegion → ℕ → Bool
+spInRange r sp = leb (r .start) sp && ltb sp (regionEnd r)

@@ -1,0 +1,12 @@
+-- Document 01's machine. To be read in this order.
+pub mod Types
+pub mod Update
+pub mod Control
+pub mod WaitQueue
+pub mod Kernel
+pub mod Scheduler
+pub mod Mutex
+pub mod Semaphore
+pub mod Event
+pub mod Timer
+pub mod Calls

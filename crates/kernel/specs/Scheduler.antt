@@ -1,0 +1,183 @@
+-- What each call on the scheduler does where nothing refuses it (sched/scheduler.rs).
+use Prim.Native.Nat.{ℕ, _+_, _-_, _%_, _^_, min}
+use mathlib.Core.Bool.{Bool, true, false, _&&_, _||_, not}
+use mathlib.Core.List.{map}
+use lib.Dec.{eqb, leb, ltb}
+use lib.IntN.{ℤ}
+use lib.ListN.{set}
+use Rattle.base.specs.Choice.{if_then_else_}
+use Rattle.base.specs.Below.{allBelow, anyBelow, lowestBelow}
+use Rattle.kernel.specs.Types.{TaskId, Priority, OptionTaskId, None, Some, TaskState, Ready, Running, Blocked, Sleeping, Terminated, StackRegion, TaskControl, WaitQueue, Kernel}
+use Rattle.kernel.specs.Update.{withState, withWakeTick, withRemaining, withOwned, withWaiter, withSp, withResult, withTasks, withCharges, withTickCount, withStarted, withCurrent, withTaskCount, withNextId}
+use Rattle.kernel.specs.Control.{inState, holdsTask, unblocked, blankSlot, newTask, regionsOverlap}
+use Rattle.kernel.specs.WaitQueue.{isEmpty, head}
+use Rattle.kernel.specs.Kernel.{slot, charge, at, current, currentTask, currentId, slotOf, atId}
+
+-- ---- next_task
+
+-- the slot n places after c + 1, cyclically
+abbrev pub slotAfter : ℕ → ℕ → ℕ
+slotAfter c n = (c + 1 + n) % 16
+
+-- Over which slots are Ready and what rank each has, so that the kernel's pick and the exported one are instances.
+module _ (ready : ℕ → Bool) (rank : ℕ → ℕ) where
+  -- slot i is Ready, and no Ready slot has a smaller rank
+  unfoldable pub isBest : ℕ → Bool
+  isBest i = ready i && allBelow (λ j. not (ready j && ltb (rank j) (rank i))) 16
+
+  -- how far on the first such slot is; 16 where none is Ready
+  abbrev pub distance : ℕ → ℕ
+  distance c = lowestBelow (λ n. isBest (slotAfter c n)) 16
+
+  -- the first such slot from c + 1 cyclically; none Ready, slot 0
+  unfoldable pub pick : ℕ → ℕ
+  pick c = if ltb (distance c) 16 then slotAfter c (distance c) else 0
+
+abbrev pub isReady : Kernel → ℕ → Bool
+isReady k i = holdsTask Ready (slot k i)
+
+abbrev pub priorityOf : Kernel → ℕ → ℕ
+priorityOf k i = slot k i .priority .0
+
+abbrev pub nextTask : Kernel → ℕ
+nextTask k = pick (isReady k) (priorityOf k) (current k)
+
+-- ---- state calls
+
+abbrev pub setStatus : TaskState → Kernel → Kernel
+setStatus s k = at (current k) (withState s) k
+
+abbrev pub block : Kernel → Kernel
+block k = setStatus Blocked k
+
+-- the tick at which a sleep of so many ticks ends, held at 2^64 - 1
+abbrev pub wakeTick : ℕ → Kernel → ℕ
+wakeTick ticks k = min (k .«tick_count» + ticks) (2 ^ 64 - 1)
+
+abbrev pub sleep : ℕ → Kernel → Kernel
+sleep ticks k = at (current k) (λ t. withWakeTick (wakeTick ticks k) (withState Sleeping t)) k
+
+abbrev pub wake : TaskId → Kernel → Kernel
+wake a k = atId a unblocked k
+
+abbrev pub wakeWaiter : OptionTaskId → Kernel → Kernel
+wakeWaiter None k = k
+wakeWaiter (Some a) k = wake a k
+
+abbrev pub terminated : TaskControl → TaskControl
+terminated t = withWaiter None (withWakeTick 0 (withRemaining 0 (withState Terminated t)))
+
+-- current Terminated, its waiter taken, and that one woken if it is present and Blocked
+unfoldable pub exit : Kernel → Kernel
+exit k = wakeWaiter (currentTask k .waiter) (at (current k) terminated k)
+
+-- a Terminated target changes nothing; otherwise current is its waiter, and Blocked
+unfoldable pub wait : TaskId → Kernel → Kernel
+wait a k = if inState Terminated (slot k (slotOf k a)) then k else block (at (slotOf k a) (withWaiter (Some (currentId k))) k)
+
+-- slot i emptied, task_count down
+abbrev pub emptied : ℕ → Kernel → Kernel
+emptied i k = withTaskCount (k .«task_count» - 1) (withTasks (set (k .tasks) i blankSlot) k)
+
+-- the lowest Terminated slot from 1, never current; 16 where there is none
+unfoldable pub reapableSlot : Kernel → ℕ
+reapableSlot k = lowestBelow (λ i. leb 1 i && not (eqb i (current k)) && holdsTask Terminated (slot k i)) 16
+
+unfoldable pub reapOne : Kernel → Kernel
+reapOne k = if ltb (reapableSlot k) 16 then emptied (reapableSlot k) k else k
+
+abbrev pub setResult : TaskId → ℤ → Kernel → Kernel
+setResult a r k = atId a (withResult r) k
+
+-- ---- for the objects
+
+-- `mutex_acquired`, `mutex_released`
+abbrev pub ownedUp : TaskId → Kernel → Kernel
+ownedUp a k = atId a (λ t. withOwned (t .«owned_mutex_count» + 1) t) k
+
+abbrev pub ownedDown : TaskId → Kernel → Kernel
+ownedDown a k = atId a (λ t. withOwned (t .«owned_mutex_count» - 1) t) k
+
+-- the head of a queue is woken, if there is one
+abbrev pub wakeHead : WaitQueue → Kernel → Kernel
+wakeHead q k = if isEmpty q then k else wake (head q) k
+
+-- ---- add
+
+-- the lowest empty slot; 16 where there is none
+unfoldable pub lowestEmpty : Kernel → ℕ
+lowestEmpty k = lowestBelow (λ i. not (slot k i .occupied)) 16
+
+unfoldable pub overlapsPresent : StackRegion → Kernel → Bool
+overlapsPresent r k = anyBelow (λ i. slot k i .occupied && regionsOverlap r (slot k i .stack)) 16
+
+abbrev pub nextId : Kernel → TaskId
+nextId k = record { 0 = k .«next_id» }
+
+unfoldable pub add : Priority → StackRegion → Kernel → Kernel
+add p r k = withTaskCount (k .«task_count» + 1) (withNextId (k .«next_id» + 1) (at (lowestEmpty k) (λ _. newTask (nextId k) p r) k))
+
+-- ---- tick
+
+-- a sleeper whose wake_tick is at most now
+unfoldable pub isDue : ℕ → TaskControl → Bool
+isDue now t = holdsTask Sleeping t && leb (t .«wake_tick») now
+
+unfoldable pub woken : ℕ → TaskControl → TaskControl
+woken now t = if isDue now t then withState Ready t else t
+
+-- one tick off the slice, not below 0; at 0 it becomes time_slice
+abbrev pub spent : TaskControl → TaskControl
+spent t = if eqb (t .«remaining_slice» - 1) 0 then withRemaining (t .«time_slice») t else withRemaining (t .«remaining_slice» - 1) t
+
+-- tick_count up, the charge of current up if started, and every sleeper that is due Ready
+unfoldable pub advanced : Kernel → Kernel
+advanced k =
+    let now = k .«tick_count» + 1 in
+    let charges = if k .started then set (k .charges) (current k) (charge k (current k) + 1) else k .charges in
+    withTickCount now (withCharges charges (withTasks (map (woken now) (k .tasks)) k))
+
+abbrev pub currentRuns : Kernel → Bool
+currentRuns k = inState Running (currentTask k)
+
+-- if current runs, one tick off its slice
+unfoldable pub sliced : Kernel → Kernel
+sliced k = if k .started && currentRuns k then at (current k) spent k else k
+
+-- `update_tick`
+unfoldable pub tick : Kernel → Kernel
+tick k = sliced (advanced k)
+
+-- whether a switch is wanted: current does not run, a sleeper woke, or the slice reaches 0
+unfoldable pub wants : Bool → Kernel → Bool
+wants woke k =
+    if not (k .started) then false
+    else if not (currentRuns k) then true
+    else woke || eqb (currentTask k .«remaining_slice» - 1) 0
+
+unfoldable pub wantsSwitch : Kernel → Bool
+wantsSwitch k = wants (anyBelow (λ i. isDue (k .«tick_count» + 1) (slot k i)) 16) (advanced k)
+
+-- ---- start and switch
+
+-- slot i becomes current, and f of its task Running
+abbrev pub dispatched : ℕ → (TaskControl → TaskControl) → Kernel → Kernel
+dispatched i f k = withCurrent i (at i (λ t. withState Running (f t)) k)
+
+-- no reload of the slice
+unfoldable pub start : Kernel → Kernel
+start k = dispatched (nextTask k) (λ t. t) (withStarted true k)
+
+-- current's sp stored, Running made Ready
+unfoldable pub contextSaved : ℕ → TaskControl → TaskControl
+contextSaved sp t = if inState Running t then withState Ready (withSp sp t) else withSp sp t
+
+unfoldable pub reloaded : TaskControl → TaskControl
+reloaded t = if eqb (t .«remaining_slice») 0 then withRemaining (t .«time_slice») t else t
+
+abbrev pub saveContext : ℕ → Kernel → Kernel
+saveContext sp k = at (current k) (contextSaved sp) k
+
+-- what was current is saved, then the next task is picked
+unfoldable pub switch : ℕ → Kernel → Kernel
+switch sp k = dispatched (nextTask (saveContext sp k)) reloaded (saveContext sp k)

@@ -1,0 +1,28 @@
+-- What each semaphore call does where nothing refuses it (synchronization/semaphore.rs).
+use Prim.Native.Nat.{ℕ, _+_, _-_}
+use mathlib.Core.Bool.{Bool}
+use lib.Dec.{ltb}
+use Rattle.base.specs.Choice.{if_then_else_}
+use Rattle.kernel.specs.Types.{Kernel}
+use Rattle.kernel.specs.WaitQueue.{popped, enqueued}
+use Rattle.kernel.specs.Kernel.{currentId, semaphore, withSemaphore}
+use Rattle.kernel.specs.Scheduler.{block, wakeHead}
+
+abbrev pub hasPermit : ℕ → Kernel → Bool
+hasPermit s k = ltb 0 (semaphore k s .count)
+
+abbrev pub permitTaken : ℕ → Kernel → Kernel
+permitTaken s k = withSemaphore s (record { count = semaphore k s .count - 1; waiters = semaphore k s .waiters }) k
+
+abbrev pub blockedOnSemaphore : ℕ → Kernel → Kernel
+blockedOnSemaphore s k = withSemaphore s (record { count = semaphore k s .count; waiters = enqueued (semaphore k s .waiters) (currentId k) }) (block k)
+
+unfoldable pub acquire : ℕ → Kernel → Kernel
+acquire s k = if hasPermit s k then permitTaken s k else blockedOnSemaphore s k
+
+unfoldable pub tryAcquire : ℕ → Kernel → Kernel
+tryAcquire s k = if hasPermit s k then permitTaken s k else k
+
+-- count up, then wake one
+unfoldable pub release : ℕ → Kernel → Kernel
+release s k = withSemaphore s (record { count = semaphore k s .count + 1; waiters = popped (semaphore k s .waiters) }) (wakeHead (semaphore k s .waiters) k)

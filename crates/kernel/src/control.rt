@@ -1,0 +1,180 @@
+// Tasks and their slots in the table: task/control.rs of the source.
+ghost use mathlib.Core.Path.{_≡_};
+ghost use Rattle.kernel.specs.Update.{withState, withWaiter, withTimeSlice};
+ghost use Rattle.kernel.specs.Control.{stateNumber, sameId, names, blankSlot};
+
+// A place in the table, 0 to 15; never taken for a task's id.
+pub struct SlotIndex(pub usize);
+
+pub struct TaskId(pub u32);
+
+// Smaller is better.
+pub struct Priority(pub u8);
+
+// The source's `Option<TaskId>`.
+pub enum OptionTaskId {
+    None,
+    Some(TaskId),
+}
+
+pub enum TaskState {
+    Ready,
+    Running,
+    Blocked,
+    Sleeping,
+    Suspended,
+    Terminated,
+}
+
+// Start and size in bytes from the arena's start.
+pub struct StackRegion {
+    pub start: u32,
+    pub size: u32,
+}
+
+// A slot of the table: the source's `Option<TaskControl>`, where `occupied` stands for `Some`. `sp` and `result` stand for the processor context.
+pub struct TaskControl {
+    pub occupied: bool,
+    pub id: TaskId,
+    pub state: TaskState,
+    pub priority: Priority,
+    pub wake_tick: u64,
+    pub time_slice: u32,
+    pub remaining_slice: u32,
+    pub owned_mutex_count: u32,
+    pub waiter: OptionTaskId,
+    pub stack: StackRegion,
+    pub sp: u32,
+    pub result: i32,
+}
+
+// A record of the list call.
+pub struct TaskInfo {
+    pub id: TaskId,
+    pub state: TaskState,
+    pub priority: Priority,
+    pub stack_used: u32,
+    pub stack_total: u32,
+}
+
+impl TaskId {
+    pub fn is(self, other: TaskId) -> bool
+        ensures { λ r. ⌜ r ≡ sameId self other ⌝ }
+    {
+        self.0 == other.0
+    }
+}
+
+impl OptionTaskId {
+    // Whether it is that id.
+    pub fn is(self, id: TaskId) -> bool
+        ensures { λ r. ⌜ r ≡ names self id ⌝ }
+    {
+        match self {
+            OptionTaskId::None => false,
+            OptionTaskId::Some(other) => other.0 == id.0,
+        }
+    }
+}
+
+impl StackRegion {
+    pub const MIN_SIZE: u32 = 16;
+}
+
+impl TaskState {
+    pub fn number(self) -> u8
+        ensures { λ r. ⌜ r ≡ stateNumber self ⌝ }
+    {
+        match self {
+            TaskState::Ready => 0,
+            TaskState::Running => 1,
+            TaskState::Blocked => 2,
+            TaskState::Sleeping => 3,
+            TaskState::Suspended => 4,
+            TaskState::Terminated => 5,
+        }
+    }
+}
+
+impl TaskControl {
+    pub const STACK_MAGIC: u32 = 0xDEADBEEF;
+
+    pub const STACK_GUARD_WORDS: usize = 4;
+
+    pub const DEFAULT_TIME_SLICE: u32 = 5;
+
+    pub const MAX_OWNED_MUTEXES: u32 = 4;
+
+    pub fn empty() -> Self
+        ensures { λ r. ⌜ r ≡ blankSlot ⌝ }
+    {
+        TaskControl {
+            occupied: false,
+            id: TaskId(0),
+            state: TaskState::Ready,
+            priority: Priority(0),
+            wake_tick: 0,
+            time_slice: 0,
+            remaining_slice: 0,
+            owned_mutex_count: 0,
+            waiter: OptionTaskId::None,
+            stack: StackRegion { start: 0, size: 0 },
+            sp: 0,
+            result: 0,
+        }
+    }
+
+    pub fn with_time_slice(mut self, time_slice: u32) -> Self
+        ensures { λ r. ⌜ r ≡ withTimeSlice «time_slice» self ⌝ }
+    {
+        self.time_slice = time_slice;
+        self.remaining_slice = time_slice;
+        self
+    }
+
+    pub fn with_state(self, state: TaskState) -> Self
+        ensures { λ r. ⌜ r ≡ withState state self ⌝ }
+    {
+        let id = self.id;
+        let priority = self.priority;
+        let waiter = self.waiter;
+        let stack = self.stack;
+        TaskControl {
+            occupied: self.occupied,
+            id,
+            state,
+            priority,
+            wake_tick: self.wake_tick,
+            time_slice: self.time_slice,
+            remaining_slice: self.remaining_slice,
+            owned_mutex_count: self.owned_mutex_count,
+            waiter,
+            stack,
+            sp: self.sp,
+            result: self.result,
+        }
+    }
+
+    pub fn with_waiter(self, waiter: OptionTaskId) -> Self
+        ensures { λ r. ⌜ r ≡ withWaiter waiter self ⌝ }
+    {
+        let id = self.id;
+        let state = self.state;
+        let priority = self.priority;
+        let stack = self.stack;
+        TaskControl {
+            occupied: self.occupied,
+            id,
+            state,
+            priority,
+            wake_tick: self.wake_tick,
+            time_slice: self.time_slice,
+            remaining_slice: self.remaining_slice,
+            owned_mutex_count: self.owned_mutex_count,
+            waiter,
+            stack,
+            sp: self.sp,
+            result: self.result,
+        }
+    }
+}

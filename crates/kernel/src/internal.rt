@@ -1,0 +1,32 @@
+// A constructor that asks something of its caller. No calls.
+use crate::control::OptionTaskId;
+use crate::control::Priority;
+use crate::control::StackRegion;
+use crate::control::TaskControl;
+use crate::control::TaskId;
+use crate::control::TaskState;
+ghost use mathlib.Core.Path.{_≡_};
+ghost use Prim.Native.Nat.{_+_, _<_, _^_};
+ghost use Rattle.kernel.specs.Control.{newTask};
+
+impl TaskControl {
+    pub fn new(id: TaskId, priority: Priority, stack: StackRegion) -> Self
+        requires { ⌜ stack .start + stack .size < 2 ^ 32 ⌝ }
+        ensures { λ r. ⌜ r ≡ newTask id priority stack ⌝ }
+    {
+        TaskControl {
+            occupied: true,
+            id,
+            state: TaskState::Ready,
+            priority,
+            wake_tick: 0,
+            time_slice: TaskControl::DEFAULT_TIME_SLICE,
+            remaining_slice: TaskControl::DEFAULT_TIME_SLICE,
+            owned_mutex_count: 0,
+            waiter: OptionTaskId::None,
+            stack,
+            sp: stack.start + stack.size,
+            result: 0,
+        }
+    }
+}

@@ -1,0 +1,3 @@
+// What the calls are made of. No calls.
+pub mod answer;
+pub mod internal;
