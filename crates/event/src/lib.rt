@@ -1,0 +1,132 @@
+// The event calls: synchronization/event.rs of the source.
+use kernel::control::TaskState;
+use kernel::event::Event;
+use kernel::scheduler::Answer;
+use kernel::scheduler::Kernel;
+use kernel::scheduler::Value;
+use table::answer;
+use table::internal;
+ghost use mathlib.Core.Path.{_≡_};
+ghost use mathlib.Core.Bool.{not, _&&_};
+ghost use Prim.Native.Nat.{_<_};
+ghost use Rattle.base.specs.Choice.{if_then_else_};
+ghost use Rattle.kernel.specs.Kernel.{current, event};
+ghost use Rattle.kernel.specs.Event.{signalTaken, blockedOnEvent};
+ghost use Rattle.kernel.specs.Calls.{event-wait, signal, noRoom, number, effect, step};
+
+// ---- wait
+
+// 12 it would block, eight are queued and current is not among them.
+fn wait_late_number(k: Kernel, e: usize) -> u8
+    requires { ⌜ (current k < 16) × (e < 4) ⌝ }
+    ensures { λ r. ⌜ r ≡ (if not (event k e .signaled) && noRoom k (event k e .waiters) then 12 else 0) ⌝ }
+{
+    let t = internal::current_task(k);
+    let id = t.id;
+    let x = k.events[e];
+    let q = x.waiters;
+    answer::refuse_if(!x.signaled & wait_queue::no_room(q, id), 12, 0)
+}
+
+fn wait_number(k: Kernel, e: usize) -> u8
+    ensures { λ r. ⌜ r ≡ number k (event-wait e) ⌝ }
+{
+    if !whole::is_whole(k) {
+        return 1;
+    }
+    if 3 < e {
+        return 20;
+    }
+    if !k.started {
+        return 2;
+    }
+    wait_late_number(k, e)
+}
+
+fn signal_taken(mut k: Kernel, e: usize) -> Kernel
+    requires { ⌜ e < 4 ⌝ }
+    ensures { λ r. ⌜ r ≡ signalTaken e k ⌝ }
+{
+    let mut x = k.events[e];
+    x.signaled = false;
+    k.events[e] = x;
+    k
+}
+
+fn blocked(mut k: Kernel, e: usize) -> Kernel
+    requires { ⌜ (current k < 16) × (e < 4) ⌝ }
+    ensures { λ r. ⌜ r ≡ blockedOnEvent e k ⌝ }
+{
+    let t = internal::current_task(k);
+    let id = t.id;
+    let x = k.events[e];
+    let q = x.waiters;
+    let waiters = wait_queue::queued(q, id);
+    let next = Event {
+        signaled: x.signaled,
+        waiters,
+    };
+    k.events[e] = next;
+    internal::set_status(k, TaskState::Blocked)
+}
+
+fn waited(k: Kernel, e: usize) -> Kernel
+    requires { ⌜ (current k < 16) × (e < 4) ⌝ }
+    ensures { λ r. ⌜ r ≡ effect k (event-wait e) ⌝ }
+{
+    if k.events[e].signaled {
+        return signal_taken(k, e);
+    }
+    blocked(k, e)
+}
+
+// A signal, or current waits. Refused: 1, 20, 2 and 12.
+pub fn wait(k: Kernel, e: usize) -> Answer
+    ensures { λ r. ⌜ r ≡ step k (event-wait e) ⌝ }
+{
+    let number = wait_number(k, e);
+    if number != 0 {
+        return answer::refused(number, k);
+    }
+    let got = k.events[e].signaled;
+    answer::accepted(Value::YesNo(got), waited(k, e))
+}
+
+// ---- signal
+
+// 1 not whole; 20 object above 3.
+fn signal_number(k: Kernel, e: usize) -> u8
+    ensures { λ r. ⌜ r ≡ number k (signal e) ⌝ }
+{
+    let whole = whole::is_whole(k);
+    answer::refuse_if(!whole, 1, answer::refuse_if(3 < e, 20, 0))
+}
+
+fn signalled(k: Kernel, e: usize) -> Kernel
+    requires { ⌜ e < 4 ⌝ }
+    ensures { λ r. ⌜ r ≡ effect k (signal e) ⌝ }
+{
+    let x = k.events[e];
+    let q = x.waiters;
+    let waiters = wait_queue::popped(q);
+    let next = Event {
+        signaled: (q.len == 0) | x.signaled,
+        waiters,
+    };
+    let mut woken = internal::wake_head(k, q);
+    woken.events[e] = next;
+    woken
+}
+
+// The head of the queue is dropped and woken; where there is none the event is signalled. Refused: 1 and 20.
+pub fn signal(k: Kernel, e: usize) -> Answer
+    ensures { λ r. ⌜ r ≡ step k (signal e) ⌝ }
+{
+    let number = signal_number(k, e);
+    if number != 0 {
+        return answer::refused(number, k);
+    }
+    let x = k.events[e];
+    let dropped = x.waiters.len != 0;
+    answer::accepted(Value::YesNo(dropped), signalled(k, e))
+}

@@ -1,0 +1,174 @@
+// The semaphore calls: synchronization/semaphore.rs of the source.
+use kernel::control::TaskState;
+use kernel::scheduler::Answer;
+use kernel::scheduler::Kernel;
+use kernel::scheduler::Value;
+use kernel::semaphore::Semaphore;
+use table::answer;
+use table::internal;
+ghost use mathlib.Core.Path.{_≡_};
+ghost use mathlib.Core.Bool.{not, _&&_};
+ghost use Prim.Native.Nat.{_<_};
+ghost use Rattle.base.specs.Choice.{if_then_else_};
+ghost use Rattle.kernel.specs.Kernel.{current, semaphore};
+ghost use Rattle.kernel.specs.Semaphore.{hasPermit, permitTaken, blockedOnSemaphore};
+ghost use Rattle.kernel.specs.Calls.{acquire, try-acquire, release, noRoom, number, effect, step};
+
+fn has_permit(k: Kernel, s: usize) -> bool
+    requires { ⌜ s < 4 ⌝ }
+    ensures { λ r. ⌜ r ≡ hasPermit s k ⌝ }
+{
+    0 < k.semaphores[s].count
+}
+
+// ---- acquire
+
+// 12 it would block, eight are queued and current is not among them.
+fn acquire_late_number(k: Kernel, s: usize) -> u8
+    requires { ⌜ (current k < 16) × (s < 4) ⌝ }
+    ensures { λ r. ⌜ r ≡ (if not (hasPermit s k) && noRoom k (semaphore k s .waiters) then 12 else 0) ⌝ }
+{
+    let t = internal::current_task(k);
+    let id = t.id;
+    let x = k.semaphores[s];
+    let q = x.waiters;
+    answer::refuse_if(!(0 < x.count) & wait_queue::no_room(q, id), 12, 0)
+}
+
+fn acquire_number(k: Kernel, s: usize) -> u8
+    ensures { λ r. ⌜ r ≡ number k (acquire s) ⌝ }
+{
+    if !whole::is_whole(k) {
+        return 1;
+    }
+    if 3 < s {
+        return 20;
+    }
+    if !k.started {
+        return 2;
+    }
+    acquire_late_number(k, s)
+}
+
+fn permit_taken(mut k: Kernel, s: usize) -> Kernel
+    requires { ⌜ (s < 4) × (0 < semaphore k s .count) ⌝ }
+    ensures { λ r. ⌜ r ≡ permitTaken s k ⌝ }
+{
+    let mut x = k.semaphores[s];
+    x.count = x.count - 1;
+    k.semaphores[s] = x;
+    k
+}
+
+fn blocked(mut k: Kernel, s: usize) -> Kernel
+    requires { ⌜ (current k < 16) × (s < 4) ⌝ }
+    ensures { λ r. ⌜ r ≡ blockedOnSemaphore s k ⌝ }
+{
+    let t = internal::current_task(k);
+    let id = t.id;
+    let x = k.semaphores[s];
+    let q = x.waiters;
+    let waiters = wait_queue::queued(q, id);
+    let next = Semaphore {
+        count: x.count,
+        waiters,
+    };
+    k.semaphores[s] = next;
+    internal::set_status(k, TaskState::Blocked)
+}
+
+fn acquired(k: Kernel, s: usize) -> Kernel
+    requires { ⌜ (current k < 16) × (s < 4) ⌝ }
+    ensures { λ r. ⌜ r ≡ effect k (acquire s) ⌝ }
+{
+    if has_permit(k, s) {
+        return permit_taken(k, s);
+    }
+    blocked(k, s)
+}
+
+// A permit, or current waits. Refused: 1, 20, 2 and 12.
+pub fn acquire(k: Kernel, s: usize) -> Answer
+    ensures { λ r. ⌜ r ≡ step k (acquire s) ⌝ }
+{
+    let number = acquire_number(k, s);
+    if number != 0 {
+        return answer::refused(number, k);
+    }
+    let got = has_permit(k, s);
+    answer::accepted(Value::YesNo(got), acquired(k, s))
+}
+
+// ---- try acquire
+
+// 1 not whole; 20 object above 3.
+fn try_acquire_number(k: Kernel, s: usize) -> u8
+    ensures { λ r. ⌜ r ≡ number k (try-acquire s) ⌝ }
+{
+    let whole = whole::is_whole(k);
+    answer::refuse_if(!whole, 1, answer::refuse_if(3 < s, 20, 0))
+}
+
+fn tried(k: Kernel, s: usize) -> Kernel
+    requires { ⌜ s < 4 ⌝ }
+    ensures { λ r. ⌜ r ≡ effect k (try-acquire s) ⌝ }
+{
+    if !has_permit(k, s) {
+        return k;
+    }
+    permit_taken(k, s)
+}
+
+pub fn try_acquire(k: Kernel, s: usize) -> Answer
+    ensures { λ r. ⌜ r ≡ step k (try-acquire s) ⌝ }
+{
+    let number = try_acquire_number(k, s);
+    if number != 0 {
+        return answer::refused(number, k);
+    }
+    let got = has_permit(k, s);
+    answer::accepted(Value::YesNo(got), tried(k, s))
+}
+
+// ---- release
+
+// 19 count 2^32 - 1.
+fn release_number(k: Kernel, s: usize) -> u8
+    ensures { λ r. ⌜ r ≡ number k (release s) ⌝ }
+{
+    if !whole::is_whole(k) {
+        return 1;
+    }
+    if 3 < s {
+        return 20;
+    }
+    let x = k.semaphores[s];
+    answer::refuse_if(x.count == 4294967295, 19, 0)
+}
+
+fn released(k: Kernel, s: usize) -> Kernel
+    requires { ⌜ (s < 4) × (semaphore k s .count < 4294967295) ⌝ }
+    ensures { λ r. ⌜ r ≡ effect k (release s) ⌝ }
+{
+    let x = k.semaphores[s];
+    let q = x.waiters;
+    let waiters = wait_queue::popped(q);
+    let count = x.count + 1;
+    let next = Semaphore { count, waiters };
+    let mut woken = internal::wake_head(k, q);
+    woken.semaphores[s] = next;
+    woken
+}
+
+// Count up, then the head of the queue is dropped and woken; yes where there was one. Refused: 1, 20 and 19.
+pub fn release(k: Kernel, s: usize) -> Answer
+    ensures { λ r. ⌜ r ≡ step k (release s) ⌝ }
+{
+    let number = release_number(k, s);
+    if number != 0 {
+        return answer::refused(number, k);
+    }
+    let x = k.semaphores[s];
+    let dropped = x.waiters.len != 0;
+    answer::accepted(Value::YesNo(dropped), released(k, s))
+}

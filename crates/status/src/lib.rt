@@ -1,0 +1,166 @@
+// Calls on the state of a task: sched/scheduler.rs of the source.
+use kernel::control::TaskControl;
+use kernel::control::TaskId;
+use kernel::control::TaskState;
+use kernel::scheduler::Answer;
+use kernel::scheduler::Kernel;
+use kernel::scheduler::Value;
+use table::answer;
+use table::internal;
+ghost use mathlib.Core.Path.{_≡_};
+ghost use mathlib.Core.Bool.{not};
+ghost use Prim.Native.Nat.{_+_, _-_, _^_, _<_, min};
+ghost use Rattle.base.specs.Choice.{if_then_else_};
+ghost use Rattle.kernel.specs.Control.{stateOf};
+ghost use Rattle.kernel.specs.Kernel.{current, isPresent, whole};
+ghost use Rattle.kernel.specs.Scheduler.{setResult};
+ghost use Rattle.kernel.specs.Scheduler.{sleep as slept};
+ghost use Rattle.kernel.specs.Calls.{current-id, status, block, sleep, wake, result, number, step};
+
+// 1 not whole; 2 not started.
+fn started_number(k: Kernel) -> u8
+    ensures { λ r. ⌜ r ≡ (if not (whole k) then 1 else if not (k .started) then 2 else 0) ⌝ }
+{
+    let whole = whole::is_whole(k);
+    answer::refuse_if(!whole, 1, answer::refuse_if(!k.started, 2, 0))
+}
+
+pub fn current_task_id(k: Kernel) -> Answer
+    ensures { λ r. ⌜ r ≡ step k current-id ⌝ }
+{
+    let number = started_number(k);
+    if number != 0 {
+        return answer::refused(number, k);
+    }
+    let t = internal::current_task(k);
+    let id = t.id;
+    answer::accepted(Value::Id(id), k)
+}
+
+fn state_of(n: u8) -> TaskState
+    ensures { λ r. ⌜ r ≡ stateOf n ⌝ }
+{
+    if n == 0 {
+        return TaskState::Ready;
+    }
+    if n == 1 {
+        return TaskState::Running;
+    }
+    if n == 2 {
+        return TaskState::Blocked;
+    }
+    if n == 3 {
+        return TaskState::Sleeping;
+    }
+    if n == 4 {
+        return TaskState::Suspended;
+    }
+    TaskState::Terminated
+}
+
+// 1 not whole; 2 not started; 7 Running, Terminated or above 5.
+fn status_number(k: Kernel, state: u8) -> u8
+    ensures { λ r. ⌜ r ≡ number k (status state) ⌝ }
+{
+    let whole = whole::is_whole(k);
+    let kept = (state == 1) | (5 <= state);
+    answer::refuse_if(
+        !whole,
+        1,
+        answer::refuse_if(!k.started, 2, answer::refuse_if(kept, 7, 0)),
+    )
+}
+
+pub fn set_current_task_status(k: Kernel, state: u8) -> Answer
+    ensures { λ r. ⌜ r ≡ step k (status state) ⌝ }
+{
+    let number = status_number(k, state);
+    if number != 0 {
+        return answer::refused(number, k);
+    }
+    answer::accepted(Value::Nothing, internal::set_status(k, state_of(state)))
+}
+
+pub fn block_current_task(k: Kernel) -> Answer
+    ensures { λ r. ⌜ r ≡ step k block ⌝ }
+{
+    let number = started_number(k);
+    if number != 0 {
+        return answer::refused(number, k);
+    }
+    answer::accepted(Value::Nothing, internal::set_status(k, TaskState::Blocked))
+}
+
+fn saturating_add(a: u64, b: u64) -> u64
+    ensures { λ r. ⌜ r ≡ min (a + b) (2 ^ 64 - 1) ⌝ }
+{
+    if 18446744073709551615 - a < b {
+        return 18446744073709551615;
+    }
+    a + b
+}
+
+fn put_to_sleep(mut k: Kernel, ticks: u64) -> Kernel
+    requires { ⌜ current k < 16 ⌝ }
+    ensures { λ r. ⌜ r ≡ slept ticks k ⌝ }
+{
+    let i = k.current.0;
+    let t = k.tasks[i];
+    let mut next = t.with_state(TaskState::Sleeping);
+    next.wake_tick = saturating_add(k.tick_count, ticks);
+    k.tasks[i] = next;
+    k
+}
+
+pub fn current_task_sleep_ticks(k: Kernel, ticks: u64) -> Answer
+    ensures { λ r. ⌜ r ≡ step k (sleep ticks) ⌝ }
+{
+    let number = started_number(k);
+    if number != 0 {
+        return answer::refused(number, k);
+    }
+    answer::accepted(Value::Nothing, put_to_sleep(k, ticks))
+}
+
+pub fn wake_task(k: Kernel, id: TaskId) -> Answer
+    ensures { λ r. ⌜ r ≡ step k (wake id) ⌝ }
+{
+    let whole = whole::is_whole(k);
+    let number = answer::refuse_if(!whole, 1, 0);
+    if number != 0 {
+        return answer::refused(number, k);
+    }
+    answer::accepted(Value::Nothing, internal::wake(k, id))
+}
+
+// 1 not whole; 8 unknown.
+fn result_number(k: Kernel, id: TaskId) -> u8
+    ensures { λ r. ⌜ r ≡ (if not (whole k) then 1 else if not (isPresent k id) then 8 else 0) ⌝ }
+{
+    let whole = whole::is_whole(k);
+    let present = internal::slot_of(k, id) < Kernel::MAX_TASKS;
+    answer::refuse_if(!whole, 1, answer::refuse_if(!present, 8, 0))
+}
+
+fn with_result(mut k: Kernel, id: TaskId, result: i32) -> Kernel
+    ensures { λ r. ⌜ r ≡ setResult id result k ⌝ }
+{
+    let i = internal::slot_of(k, id);
+    if Kernel::MAX_TASKS <= i {
+        return k;
+    }
+    let mut next = k.tasks[i];
+    next.result = result;
+    k.tasks[i] = next;
+    k
+}
+
+pub fn set_syscall_result(k: Kernel, id: TaskId, value: i32) -> Answer
+    ensures { λ r. ⌜ r ≡ step k (result id value) ⌝ }
+{
+    let number = result_number(k, id);
+    if number != 0 {
+        return answer::refused(number, k);
+    }
+    answer::accepted(Value::Nothing, with_result(k, id, value))
+}

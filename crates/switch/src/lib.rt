@@ -1,0 +1,157 @@
+// Start and switch: sched/scheduler.rs of the source.
+use kernel::control::StackRegion;
+use kernel::control::TaskControl;
+use kernel::control::TaskState;
+use kernel::scheduler::Answer;
+use kernel::scheduler::Kernel;
+use kernel::scheduler::Value;
+use table::answer;
+use table::internal;
+ghost use mathlib.Core.Path.{_≡_};
+ghost use mathlib.Core.Bool.{not};
+ghost use Prim.Native.Nat.{_+_, _/_, _<_, _≤_};
+ghost use lib.ListN.{length};
+ghost use Rattle.base.specs.Choice.{if_then_else_};
+ghost use Rattle.kernel.specs.Control.{spInRange, stackGuardOk};
+ghost use Rattle.kernel.specs.Kernel.{current};
+ghost use Rattle.kernel.specs.Scheduler;
+ghost use Rattle.kernel.specs.Scheduler.{contextSaved, saveContext, reloaded};
+ghost use Rattle.kernel.specs.Calls.{start, switch, number, value, effect, accepted, picked, step};
+
+// ---- start
+
+// 1 not whole; 3 already started.
+fn start_number(k: Kernel) -> u8
+    ensures { λ r. ⌜ r ≡ number k start ⌝ }
+{
+    let whole = whole::is_whole(k);
+    answer::refuse_if(!whole, 1, answer::refuse_if(k.started, 3, 0))
+}
+
+fn started(mut k: Kernel) -> Answer
+    ensures { λ r. ⌜ r ≡ accepted (value k start) (effect k start) ⌝ }
+{
+    let slot = pick::next_task(k);
+    let i = slot.0;
+    let t = k.tasks[i];
+    let next = t.with_state(TaskState::Running);
+    k.started = true;
+    k.tasks[i] = next;
+    k.current = slot;
+    answer::accepted(Value::Turn(slot, t.sp), k)
+}
+
+pub fn start(k: Kernel) -> Answer
+    ensures { λ r. ⌜ r ≡ step k start ⌝ }
+{
+    let number = start_number(k);
+    if number != 0 {
+        return answer::refused(number, k);
+    }
+    started(k)
+}
+
+// ---- switch
+
+fn sp_in_range(region: StackRegion, sp: u32) -> bool
+    ensures { λ r. ⌜ r ≡ spInRange region sp ⌝ }
+{
+    let end = (region.start as u64) + (region.size as u64);
+    (region.start <= sp) & ((sp as u64) < end)
+}
+
+// Whether the region's first four words are all painted.
+fn stack_guard_ok(region: StackRegion, arena: &[u32]) -> bool
+    requires { ⌜ region .start / 4 + 4 ≤ length (now arena) ⌝ }
+    ensures { λ r. ⌜ r ≡ stackGuardOk region (now (arena .entry)) ⌝ }
+{
+    let start = region.start as usize / 4;
+    let mut ok = true;
+    for i in 0..TaskControl::STACK_GUARD_WORDS {
+        ok = ok & (arena[start + i] == TaskControl::STACK_MAGIC);
+    }
+    ok
+}
+
+// 16 sp outside the region; 17 the guard is not intact.
+fn switch_late_number(stack: StackRegion, sp: u32, arena: &[u32]) -> u8
+    requires { ⌜ stack .start / 4 + 4 ≤ length (now arena) ⌝ }
+    ensures { λ r. ⌜ r ≡ (if not (spInRange stack sp) then 16 else if not (stackGuardOk stack (now (arena .entry))) then 17 else 0) ⌝ }
+{
+    let inside = sp_in_range(stack, sp);
+    let intact = stack_guard_ok(stack, arena);
+    answer::refuse_if(!inside, 16, answer::refuse_if(!intact, 17, 0))
+}
+
+fn switch_number(k: Kernel, sp: u32, arena: &[u32]) -> u8
+    ensures { λ r. ⌜ r ≡ number k (switch (now (arena .entry)) sp) ⌝ }
+{
+    let whole = whole::is_whole(k);
+    let fits = whole & (arena.len() == k.arena_words as usize);
+    if !fits {
+        return 1;
+    }
+    if !k.started {
+        return 2;
+    }
+    let t = internal::current_task(k);
+    let stack = t.stack;
+    switch_late_number(stack, sp, arena)
+}
+
+// The task that leaves the processor.
+fn context_saved(mut t: TaskControl, sp: u32) -> TaskControl
+    ensures { λ r. ⌜ r ≡ contextSaved sp t ⌝ }
+{
+    t.sp = sp;
+    let state = t.state;
+    if state.number() == 1 {
+        return t.with_state(TaskState::Ready);
+    }
+    t
+}
+
+fn save_context(mut k: Kernel, sp: u32) -> Kernel
+    requires { ⌜ current k < 16 ⌝ }
+    ensures { λ r. ⌜ r ≡ saveContext sp k ⌝ }
+{
+    let i = k.current.0;
+    let next = context_saved(k.tasks[i], sp);
+    k.tasks[i] = next;
+    k
+}
+
+fn reloaded(mut t: TaskControl) -> TaskControl
+    ensures { λ r. ⌜ r ≡ reloaded t ⌝ }
+{
+    if t.remaining_slice == 0 {
+        t.remaining_slice = t.time_slice;
+        return t;
+    }
+    t
+}
+
+fn switched(k: Kernel, sp: u32) -> Answer
+    requires { ⌜ current k < 16 ⌝ }
+    ensures { λ r. ⌜ r ≡ accepted (picked (saveContext sp k)) (Scheduler.switch sp k) ⌝ }
+{
+    let mut next_kernel = save_context(k, sp);
+    let slot = pick::next_task(next_kernel);
+    let i = slot.0;
+    let t = next_kernel.tasks[i];
+    let next = reloaded(t).with_state(TaskState::Running);
+    next_kernel.tasks[i] = next;
+    next_kernel.current = slot;
+    answer::accepted(Value::Turn(slot, t.sp), next_kernel)
+}
+
+// Stores sp in current and picks. Refused: 1, 2, 16 and 17.
+pub fn switch(k: Kernel, sp: u32, arena: &[u32]) -> Answer
+    ensures { λ r. ⌜ r ≡ step k (switch (now (arena .entry)) sp) ⌝ }
+{
+    let number = switch_number(k, sp, arena);
+    if number != 0 {
+        return answer::refused(number, k);
+    }
+    switched(k, sp)
+}

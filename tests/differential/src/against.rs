@@ -1,0 +1,138 @@
+//! Holds a program that prints as `tables` does against the published kernel.
+
+use std::io::{Read, Write};
+use std::process::{Command, ExitCode, Stdio};
+use std::thread;
+
+use kernel::interface::*;
+
+use crate::notation::{parse, put_answer, put_tables};
+use crate::replay::{HZ, lines};
+
+/// Starts the program, gives it the list, and takes what it prints, and
+/// whether it ended well.
+fn printed(program: &[&str], list: &[u8]) -> std::io::Result<(Vec<u8>, bool)> {
+    let mut child = Command::new(program[0])
+        .args(&program[1..])
+        .stdin(Stdio::piped())
+        .stdout(Stdio::piped())
+        .spawn()?;
+    let mut input = child.stdin.take().expect("a pipe");
+    let mut output = child.stdout.take().expect("a pipe");
+    let mut out = Vec::new();
+
+    thread::scope(|scope| {
+        // A program that stops early is found by what it printed.
+        scope.spawn(move || input.write_all(list));
+        output.read_to_end(&mut out)
+    })?;
+    let ended_well = child.wait()?.success();
+
+    Ok((out, ended_well))
+}
+
+/// An answer, the value left out where the Rust returns nothing.
+fn answer(line: &[u8], op: u8) -> Vec<u8> {
+    let mut line = line.to_vec();
+    if matches!(op, RELEASE | SIGNAL) && line.len() == 12 {
+        line[2..10].fill(b'.');
+    }
+    line
+}
+
+/// A line of `tables` without its last part, the charges.
+fn table(line: &[u8]) -> &[u8] {
+    let bar = line.windows(3).rposition(|part| part == b" | ");
+    &line[..bar.unwrap_or(line.len())]
+}
+
+/// The first call, counted from 0, whose answer or table is not the same, with
+/// what was wanted and what was printed.
+fn difference(list: &[Call], got: &[u8]) -> Option<(usize, String, String)> {
+    let mut got_lines = got.split(|&byte| byte == b'\n');
+    let text = |bytes: &[u8]| String::from_utf8_lossy(bytes).into_owned();
+
+    renew();
+    init(HZ);
+    for (at, &asked) in list.iter().enumerate() {
+        let (number, value) = call(asked);
+        let (mut want, mut want_table) = (Vec::new(), Vec::new());
+        put_answer(&mut want, number, value, current());
+        put_tables(&mut want_table, &tables());
+        want.pop();
+        want_table.pop();
+
+        let line = got_lines.next().unwrap_or(b"");
+        if answer(line, asked.op) != answer(&want, asked.op) {
+            return Some((at, text(&want), text(line)));
+        }
+        let line = got_lines.next().unwrap_or(b"");
+        if table(line) != want_table {
+            return Some((at, text(&want_table), text(line)));
+        }
+    }
+
+    let rest = got_lines.next().unwrap_or(b"");
+    if !rest.is_empty() || got_lines.next().is_some() {
+        return Some((list.len(), "the end".into(), text(rest)));
+    }
+    None
+}
+
+pub fn run(program: &[&str]) -> ExitCode {
+    let mut lists = vec![Vec::new()];
+    lines(|line| {
+        if line == b"new" {
+            lists.push(Vec::new());
+        } else {
+            lists.last_mut().expect("a list").push(line.to_vec());
+        }
+    });
+    lists.retain(|list| !list.is_empty());
+
+    let mut calls = 0;
+    for list in &lists {
+        // The domain first, on a kernel of its own.
+        renew();
+        init(HZ);
+        let mut asked = Vec::new();
+        for line in list {
+            match parse(line).filter(|&asked| refusal(asked) == 0) {
+                Some(one) => {
+                    call(one);
+                    asked.push(one);
+                }
+                None => {
+                    println!("outside: {}", String::from_utf8_lossy(line));
+                    return ExitCode::from(3);
+                }
+            }
+        }
+
+        let mut input = list.join(&b'\n');
+        input.push(b'\n');
+        let (got, ended_well) = match printed(program, &input) {
+            Ok(got) => got,
+            Err(error) => {
+                println!("{}: {error}", program[0]);
+                return ExitCode::from(2);
+            }
+        };
+        let found = difference(&asked, &got).or_else(|| {
+            let status = |text: &str| text.to_string();
+            (!ended_well).then(|| (asked.len(), status("status 0"), status("another")))
+        });
+        if let Some((at, want, got)) = found {
+            println!("differs after the last of these calls:");
+            for line in list.iter().take(at + 1) {
+                println!("{}", String::from_utf8_lossy(line));
+            }
+            println!("reference: {want}\nprogram:   {got}");
+            return ExitCode::from(1);
+        }
+        calls += asked.len();
+    }
+    println!("{} lists, {calls} calls: equal", lists.len());
+
+    ExitCode::SUCCESS
+}

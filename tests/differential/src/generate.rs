@@ -1,0 +1,347 @@
+//! Random lists on the compared domain. The published kernel is driven along,
+//! and its tables are looked at before each call.
+
+use std::process::ExitCode;
+
+use kernel::interface::*;
+
+use crate::coverage::Coverage;
+use crate::notation::put_call;
+use crate::replay::{HZ, write};
+
+struct Random(u64);
+
+impl Random {
+    /// splitmix64
+    fn next(&mut self) -> u64 {
+        self.0 = self.0.wrapping_add(0x9e37_79b9_7f4a_7c15);
+        let mut z = self.0;
+        z = (z ^ z >> 30).wrapping_mul(0xbf58_476d_1ce4_e5b9);
+        z = (z ^ z >> 27).wrapping_mul(0x94d0_49bb_1331_11eb);
+        z ^ z >> 31
+    }
+
+    fn below(&mut self, bound: usize) -> usize {
+        (self.next() % bound as u64) as usize
+    }
+
+    fn percent(&mut self, chance: usize) -> bool {
+        self.below(100) < chance
+    }
+
+    fn of<T: Copy>(&mut self, items: &[T]) -> T {
+        items[self.below(items.len())]
+    }
+
+    fn of_any<T: Copy>(&mut self, items: &[T]) -> Option<T> {
+        if items.is_empty() { None } else { Some(self.of(items)) }
+    }
+}
+
+/// What kind of list it is to be.
+struct Plan {
+    weights: [u32; 21],
+    priorities: Vec<u8>,
+    sizes: &'static [u32],
+    objects: usize,
+    tasks_before_start: usize,
+    calls_before_start: usize,
+    /// In a hundred: a switch next, where one is due.
+    obedience: usize,
+    /// In a hundred: a call beyond `turns`.
+    more: usize,
+}
+
+const READY: u8 = 0;
+const RUNNING: u8 = 1;
+const BLOCKED: u8 = 2;
+const TERMINATED: u8 = 5;
+
+impl Plan {
+    fn new(random: &mut Random, more: bool) -> Self {
+        // Weights from operation 01 on.
+        let mut weights = [
+            0, 3, 0, 14, 14, 2, 3, 3, 4, 4, 8, 7, 2, 6, 2, 4, 5, 4, 2, 1, 1,
+        ];
+        let mut heavier = |ops: &[u8], times: u32| {
+            for &op in ops {
+                weights[op as usize] *= times;
+            }
+        };
+        let mut tasks = 1 + random.below(6);
+        let mut sizes: &[u32] = &[64, 128, 256, 512];
+
+        match random.below(8) {
+            0 => {}
+            1 => heavier(&[LOCK, UNLOCK, TRY_LOCK, WAKE], 3),
+            2 => heavier(&[ACQUIRE, RELEASE, EVENT_WAIT, SIGNAL, WAKE], 3),
+            3 => heavier(&[ADD, EXIT, WAIT, REAP, REAP_ONE], 5),
+            4 => heavier(&[TICK, SLEEP, SWITCH, STATUS], 3),
+            5 => {
+                // A crowd at one object.
+                tasks = 9 + random.below(7);
+                heavier(&[SWITCH], 3);
+                match random.below(3) {
+                    0 => heavier(&[LOCK], 8),
+                    1 => heavier(&[ACQUIRE], 8),
+                    _ => heavier(&[EVENT_WAIT], 8),
+                }
+            }
+            6 => {
+                // A full table.
+                tasks = 13 + random.below(3);
+                sizes = &[16, 20, 64];
+                heavier(&[ADD, EXIT, REAP, REAP_ONE], 4);
+            }
+            _ => {
+                // All at once, few tasks.
+                tasks = random.below(3);
+                sizes = &[16, 1024, 2048];
+                heavier(&[EXIT, WAIT, ADD, LOCK, UNLOCK, REAP], 3);
+            }
+        }
+
+        let palette = [0, 7, 7, 8, 127, 128, 128, 128, 200, 254, 255];
+        let kinds = 1 + random.below(3);
+        Self {
+            weights,
+            priorities: (0..kinds).map(|_| random.of(&palette)).collect(),
+            sizes,
+            objects: random.of(&[1, 1, 1, 2, 2, 4]),
+            tasks_before_start: tasks,
+            calls_before_start: random.of(&[0, 0, 0, 2, 5, 20]),
+            obedience: random.of(&[20, 60, 80, 95]),
+            more: if more { 25 } else { 0 },
+        }
+    }
+}
+
+/// An id to name: mostly one that `wanted` picks out, sometimes any other.
+fn id(random: &mut Random, tables: &Tables, wanted: impl Fn(usize, &Slot) -> bool) -> u32 {
+    let present: Vec<(usize, Slot)> = (0..SLOTS)
+        .filter_map(|at| tables.slots[at].map(|slot| (at, slot)))
+        .collect();
+    let ids: Vec<u32> = present
+        .iter()
+        .filter(|(at, slot)| wanted(*at, slot))
+        .map(|(_, slot)| slot.id)
+        .collect();
+
+    match random.below(20) {
+        0..=13 => random.of_any(&ids).unwrap_or_else(|| random.of(&present).1.id),
+        14..=17 => random.of(&present).1.id,
+        18 => random.below(tables.next_id as usize + 1) as u32,
+        _ => random.of(&[0, tables.next_id, u32::MAX, 1 << 31]),
+    }
+}
+
+/// A call of that operation, with operands that suit the tables. It may yet be
+/// outside the domain.
+fn operands(random: &mut Random, plan: &Plan, tables: &Tables, op: u8) -> Option<Call> {
+    let own = tables.slots[tables.current]?;
+    let (mut k, mut y) = (0, 0);
+
+    match op {
+        ADD => {
+            k = if random.percent(90) { random.of(&plan.priorities) } else { random.next() as u8 };
+            if tables.task_count == SLOTS {
+                y = if random.percent(50) { random.next() as u32 } else { 0x2000_0100 };
+            } else {
+                let size = if random.percent(85) {
+                    random.of(plan.sizes)
+                } else {
+                    16 + 4 * random.below(100) as u32
+                };
+                let start = free_stretch(random, tables, size)?;
+                y = start << 16 | size;
+            }
+        }
+        SWITCH => {
+            let last = own.size - 1;
+            y = own.start
+                + match random.below(8) {
+                    0 => 0,
+                    1 => last,
+                    2..=4 => last & !3,
+                    5 => last.saturating_sub(63) & !3,
+                    _ => random.below(own.size as usize) as u32,
+                };
+        }
+        WAIT => {
+            y = match random.below(10) {
+                0 => own.id,
+                1..=2 => id(random, tables, |_, slot| slot.waiter.is_some()),
+                3 => id(random, tables, |_, slot| slot.state == TERMINATED),
+                _ => id(random, tables, |at, slot| {
+                    at != tables.current && slot.state != TERMINATED
+                }),
+            }
+        }
+        REAP => y = id(random, tables, |_, slot| slot.state == TERMINATED),
+        WAKE => y = id(random, tables, |_, slot| slot.state == BLOCKED),
+        SLEEP => y = random.of(&[0, 0, 1, 1, 2, 3, 5, 8, 20, u32::MAX]),
+        STATUS => k = random.of(&[0, 0, 0, 0, 2, 3, 3, 4]),
+        UNLOCK => {
+            let owned: Vec<u8> = (0..OBJECTS as u8)
+                .filter(|&k| tables.mutexes[k as usize].owner == Some(own.id))
+                .collect();
+            k = random.of_any(&owned)?;
+        }
+        LOCK | TRY_LOCK => {
+            let handed: Vec<u8> = (0..OBJECTS as u8)
+                .filter(|&k| tables.mutexes[k as usize].handoff_to == Some(own.id))
+                .collect();
+            k = random
+                .of_any(&handed)
+                .filter(|_| random.percent(60))
+                .unwrap_or(random.below(plan.objects) as u8);
+        }
+        ACQUIRE..=SIGNAL => k = random.below(plan.objects) as u8,
+        RESULT => {
+            k = random.next() as u8;
+            y = id(random, tables, |_, slot| slot.state == BLOCKED);
+        }
+        WORD => {
+            // Mostly in a present task's stretch, past its guard.
+            let present: Vec<Slot> = tables.slots.iter().flatten().copied().collect();
+            let slot = random.of(&present);
+            let inside = slot.start / 4 + random.below(slot.size as usize / 4) as u32;
+            let anywhere = random.below(ARENA_BYTES as usize / 4) as u32;
+            let place = if random.percent(80) { inside } else { anywhere };
+            let word = random.of(&[0, 1, 0xbeef, 0xffff]);
+            let guard = tables.slots.iter().flatten().any(|slot| {
+                (slot.start / 4..slot.start / 4 + 4).contains(&place)
+            });
+            y = place << 16 | if guard { 0xffff } else { word };
+        }
+        _ => {}
+    }
+
+    Some(Call { op, k, y })
+}
+
+/// A place for that many bytes that no present task has: against one that is
+/// taken, or anywhere.
+fn free_stretch(random: &mut Random, tables: &Tables, size: u32) -> Option<u32> {
+    let free = |start: u32| {
+        start + size <= ARENA_BYTES
+            && tables.slots.iter().flatten().all(|slot| {
+                start + size <= slot.start || slot.start + slot.size <= start
+            })
+    };
+    let close: Vec<u32> = tables
+        .slots
+        .iter()
+        .flatten()
+        .flat_map(|slot| [slot.start + slot.size, slot.start.saturating_sub(size)])
+        .chain([ARENA_BYTES - size])
+        .filter(|&start| free(start))
+        .collect();
+
+    if random.percent(70) {
+        return random.of_any(&close);
+    }
+    (0..8)
+        .map(|_| 4 * random.below(ARENA_BYTES as usize / 4) as u32)
+        .find(|&start| free(start))
+        .or(random.of_any(&close))
+}
+
+/// The next call of a list.
+fn choose(random: &mut Random, plan: &Plan, tables: &Tables, made: usize, wanted: bool) -> Call {
+    let own = tables.slots[tables.current].expect("current");
+
+    if !tables.started {
+        let added = tables.task_count > plan.tasks_before_start || made > 60;
+        let waited = made >= plan.tasks_before_start + plan.calls_before_start;
+        if added && waited && random.percent(70) {
+            return Call { op: START, k: 0, y: 0 };
+        }
+    }
+
+    for _ in 0..100 {
+        let alive = tables
+            .slots
+            .iter()
+            .skip(1)
+            .flatten()
+            .filter(|slot| matches!(slot.state, READY | RUNNING))
+            .count();
+        let owns = tables.mutexes.iter().any(|mutex| mutex.owner == Some(own.id));
+        let handed = tables.mutexes.iter().any(|mutex| mutex.handoff_to == Some(own.id));
+        let room = tables.task_count < SLOTS;
+
+        let op = if plan.more > 0 && random.percent(plan.more) {
+            random.of(&[CURRENT_ID, RESULT, LIST, WORD])
+        } else if !tables.started {
+            if tables.task_count <= plan.tasks_before_start && room && random.percent(80) {
+                ADD
+            } else {
+                random.of(&[ADD, TICK, WAKE, REAP, TRY_ACQUIRE, RELEASE, SIGNAL, REAP_ONE])
+            }
+        } else if (wanted || own.state != RUNNING) && random.percent(plan.obedience) {
+            SWITCH
+        } else if alive <= 1 && random.percent(25) {
+            // Bring tasks back.
+            random.of(&[WAKE, WAKE, RELEASE, SIGNAL, TICK, TICK, ADD, SWITCH])
+        } else if handed && random.percent(30) {
+            LOCK
+        } else if owns && random.percent(10) {
+            UNLOCK
+        } else {
+            let total: u32 = plan.weights.iter().sum();
+            let mut at = random.below(total as usize) as u32;
+            (0..21)
+                .find(|&op| {
+                    let weight = plan.weights[op as usize];
+                    let found = at < weight;
+                    at = at.wrapping_sub(weight);
+                    found
+                })
+                .expect("a weight")
+        };
+
+        if let Some(call) = operands(random, plan, tables, op).filter(|&call| refusal(call) == 0) {
+            return call;
+        }
+    }
+
+    Call { op: TICK, k: 0, y: 0 }
+}
+
+pub fn run(seed: u64, calls: u64, length: u64, more: bool) -> ExitCode {
+    let mut random = Random(seed);
+    let mut coverage = Coverage::default();
+    let mut out = Vec::new();
+
+    while coverage.calls < calls {
+        renew();
+        init(HZ);
+        out.extend_from_slice(b"new\n");
+        coverage.lists += 1;
+
+        let plan = Plan::new(&mut random, more);
+        let most = calls - coverage.calls;
+        let goal = (length / 2 + random.next() % (length + 1)).clamp(1, most);
+        let mut before = tables();
+        let mut wanted = false;
+
+        for made in 0..goal as usize {
+            let asked = choose(&mut random, &plan, &before, made, wanted);
+            let answer = call(asked);
+            let after = tables();
+
+            put_call(&mut out, asked);
+            coverage.note(asked, answer, &before, &after);
+            wanted = asked.op == TICK && answer == (0, 1);
+            before = after;
+        }
+        if out.len() >= 1 << 16 {
+            write(&mut out);
+        }
+    }
+    write(&mut out);
+    eprint!("{}", coverage.text());
+
+    ExitCode::SUCCESS
+}

@@ -1,0 +1,1 @@
+//! Stand-in for interrupt: nothing published uses it.

@@ -1,0 +1,1 @@
+//! Stand-in for stdio: nothing published uses it.
