@@ -11,10 +11,9 @@ import random
 import subprocess
 import sys
 
+sys.dont_write_bytecode = True
 import model
 
-seed, lines = int(sys.argv[1]), int(sys.argv[2])
-share = float(sys.argv[3]) if len(sys.argv) > 3 else 0.03
 counts = {}
 
 
@@ -81,7 +80,7 @@ def frame():
     return f"{op:02x}{a:02x}{y:08x}".encode()
 
 
-def make(seed):
+def make(seed, lines, share):
     """A list, as bytes."""
     global rng, machine, mood, what
     rng, machine, mood, what, out = random.Random(seed), model.Turns(), "any", 0xd, []
@@ -102,12 +101,14 @@ def make(seed):
 
 
 def main():
+    seed, lines = int(sys.argv[1]), int(sys.argv[2])
+    share = float(sys.argv[3]) if len(sys.argv) > 3 else 0.03
     if len(sys.argv) <= 4:
-        sys.stdout.buffer.write(make(seed))
+        sys.stdout.buffer.write(make(seed, lines, share))
     else:
         lists, mode, program = int(sys.argv[4]), sys.argv[5], sys.argv[6:]
         for at in range(seed, seed + lists):
-            data, want = make(at), []
+            data, want = make(at, lines, share), []
             model.run(data, mode == "tables", want)
             got = subprocess.run(program, input=data, capture_output=True)
             if got.stdout != "".join(want).encode() or got.returncode != 0:
@@ -119,4 +120,5 @@ def main():
         print(f"{'--' if key[0] is None else format(key[0], '02x')} {key[1]}: {counts[key]}", file=sys.stderr)
 
 
-main()
+if __name__ == "__main__":
+    main()

@@ -207,7 +207,7 @@ value k (event-wait e) = YesNo (event k e .signaled)
 value k (signal e) = YesNo (not (isEmpty (event k e .waiters)))
 value k (list arena records) = Count (k .«task_count»)
 
--- the value as 01 writes it in four bytes: id, slot, region start, 1 or 0 for yes or no, the count of a list, 0xffffffff for no region, otherwise 0. Contracts equate the value itself.
+-- the value as `turns` prints it: id, slot, region start, 1 or 0 for yes or no, 0xffffffff for no region, otherwise 0; for list, which is no operation of `turns`, the count. Contracts equate the value itself.
 unfoldable pub valueNumber : Value → ℕ
 valueNumber Nothing = 0
 valueNumber (Id a) = a .0

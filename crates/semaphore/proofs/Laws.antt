@@ -1,13 +1,8 @@
--- What an accepted call on a semaphore tells of its object: its number is below 4, and one that is released is not full.
+-- What an accepted acquire or try acquire tells of its semaphore: its number is below 4.
 use Prim.Native.Nat.{ℕ, _<_}
-use mathlib.Core.Path.{_≡_, sym, _∙_}
-use mathlib.Core.Bool.{false≢true}
-use lib.Dec.{eqb, lit<}
-use borrow.Author.Tests.{eq-eqb}
-use Rattle.base.proofs.Choices.{clear}
+use mathlib.Core.Path.{_≡_}
 use Rattle.kernel.specs.declared.scheduler.Kernel.{Kernel}
-use Rattle.kernel.specs.Kernel.{semaphore}
-use Rattle.kernel.specs.Calls.{acquire, try-acquire, release, number}
+use Rattle.kernel.specs.Calls.{acquire, try-acquire, number}
 use Rattle.kernel.proofs.Accepted.{object-checks}
 
 pub acquire-object : (k : Kernel) (s : ℕ) → number k (acquire s) ≡ 0 → s < 4
@@ -17,11 +12,3 @@ acquire-object k s e = object-checks _ s _ e .0
 pub try-acquire-object : (k : Kernel) (s : ℕ) → number k (try-acquire s) ≡ 0 → s < 4
 unfolding number
 try-acquire-object k s e = object-checks _ s _ e .0
-
-pub release-object : (k : Kernel) (s : ℕ) → number k (release s) ≡ 0 → s < 4
-unfolding number
-release-object k s e = object-checks _ s _ e .0
-
-pub release-count : (k : Kernel) (s : ℕ) → number k (release s) ≡ 0 → semaphore k s .count ≡ 4294967295 → ⊥
-unfolding number
-release-count k s e f = false≢true (sym (clear (eqb (semaphore k s .count) 4294967295) 19 0 (lit< tt) (object-checks _ s _ e .1) .0) ∙ eq-eqb _ _ f)

@@ -1,4 +1,4 @@
-// Start and switch: sched/scheduler.rs of the source.
+// Switch: sched/scheduler.rs of the source.
 use kernel::control::StackRegion;
 use kernel::control::TaskControl;
 use kernel::control::TaskState;
@@ -16,42 +16,7 @@ ghost use Rattle.kernel.specs.Control.{spInRange, stackGuardOk};
 ghost use Rattle.kernel.specs.Kernel.{current};
 ghost use Rattle.kernel.specs.Scheduler;
 ghost use Rattle.kernel.specs.Scheduler.{contextSaved, saveContext, reloaded};
-ghost use Rattle.kernel.specs.Calls.{start, switch, number, value, effect, accepted, picked, step};
-
-// ---- start
-
-// 1 not whole; 3 already started.
-fn start_number(k: Kernel) -> u8
-    ensures { λ r. ⌜ r ≡ number k start ⌝ }
-{
-    let whole = whole::is_whole(k);
-    answer::refuse_if(!whole, 1, answer::refuse_if(k.started, 3, 0))
-}
-
-fn started(mut k: Kernel) -> Answer
-    ensures { λ r. ⌜ r ≡ accepted (value k start) (effect k start) ⌝ }
-{
-    let slot = pick::next_task(k);
-    let i = slot.0;
-    let t = k.tasks[i];
-    let next = t.with_state(TaskState::Running);
-    k.started = true;
-    k.tasks[i] = next;
-    k.current = slot;
-    answer::accepted(Value::Turn(slot, t.sp), k)
-}
-
-pub fn start(k: Kernel) -> Answer
-    ensures { λ r. ⌜ r ≡ step k start ⌝ }
-{
-    let number = start_number(k);
-    if number != 0 {
-        return answer::refused(number, k);
-    }
-    started(k)
-}
-
-// ---- switch
+ghost use Rattle.kernel.specs.Calls.{switch, number, accepted, picked, step};
 
 fn sp_in_range(region: StackRegion, sp: u32) -> bool
     ensures { λ r. ⌜ r ≡ spInRange region sp ⌝ }

@@ -6,8 +6,9 @@ use kernel::scheduler::Kernel;
 use kernel::wait_queue::WaitQueue;
 ghost use mathlib.Core.Path.{_≡_};
 ghost use Prim.Native.Nat.{_-_, _≤_, _<_};
-ghost use Rattle.kernel.specs.Control.{unblocked};
-ghost use Rattle.kernel.specs.Kernel.{slot, current, currentTask, slotOf};
+ghost use Rattle.kernel.specs.declared.control.TaskState.the-variants.{Terminated};
+ghost use Rattle.kernel.specs.Control.{inState, unblocked};
+ghost use Rattle.kernel.specs.Kernel.{slot, current, currentTask, currentId, slotOf};
 ghost use Rattle.kernel.specs.Scheduler.{setStatus, wake, wakeHead, ownedUp, ownedDown};
 
 // The lowest occupied slot that holds the id; 16 where none does.
@@ -29,6 +30,22 @@ pub fn current_task(k: Kernel) -> TaskControl
 {
     let i = k.current.0;
     k.tasks[i]
+}
+
+// Current's id.
+pub fn current_id(k: Kernel) -> TaskId
+    requires { ⌜ current k < 16 ⌝ }
+    ensures { λ r. ⌜ r ≡ currentId k ⌝ }
+{
+    let t = current_task(k);
+    t.id
+}
+
+pub fn is_terminated(t: TaskControl) -> bool
+    ensures { λ r. ⌜ r ≡ inState Terminated t ⌝ }
+{
+    let state = t.state;
+    state.number() == 5
 }
 
 pub fn set_status(mut k: Kernel, state: TaskState) -> Kernel

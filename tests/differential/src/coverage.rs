@@ -86,14 +86,14 @@ impl Coverage {
                 case("turn of slot 0, none Ready",
                     ready == 0 && (own.state != 1 || !before.started));
             }
-            EXIT => match own.waiter.map(find) {
-                None => case("exit, no waiter", true),
-                Some(None) => case("exit, waiter gone", true),
-                Some(Some(slot)) => {
-                    case("exit, waiter woken", slot.state == 2);
-                    case("exit, waiter not Blocked", slot.state != 2);
-                }
-            },
+            EXIT => {
+                let waiter = own.waiter.map(find);
+                case("exit, no waiter", waiter.is_none());
+                case("exit, waiter gone", matches!(waiter, Some(None)));
+                case("exit, waiter woken", matches!(waiter, Some(Some(slot)) if slot.state == 2));
+                case("exit, waiter not Blocked",
+                    matches!(waiter, Some(Some(slot)) if slot.state != 2));
+            }
             WAIT => {
                 let target = find(call.y);
                 let waiter = target.and_then(|target| target.waiter);
@@ -103,9 +103,10 @@ impl Coverage {
                 case("wait refused for a waiter that is gone",
                     number == 9 && waiter.is_some_and(|id| find(id).is_none()));
             }
-            REAP if number == 9 => {
-                case("reap of idle refused", call.y == 0);
-                case("reap of a Terminated current refused", call.y == own.id && own.state == 5);
+            REAP => {
+                case("reap of idle refused", number == 9 && call.y == 0);
+                case("reap of a Terminated current refused",
+                    number == 9 && call.y == own.id && own.state == 5);
             }
             REAP_ONE => {
                 case("reap_one, none", value == NONE);
@@ -159,6 +160,10 @@ impl Coverage {
                 }));
             }
             _ => {}
+        }
+        if matches!(call.op, LOCK | TRY_LOCK) {
+            let owned = after.slots[after.current].expect("current").owned;
+            case("lock or try lock, then all four owned", own.owned == 3 && owned == 4);
         }
         if matches!(call.op, LOCK | ACQUIRE | EVENT_WAIT) && value == 0 {
             case("blocks while queued there already", queued);

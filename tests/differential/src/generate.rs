@@ -103,11 +103,19 @@ impl Plan {
 
         let palette = [0, 7, 7, 8, 127, 128, 128, 128, 200, 254, 255];
         let kinds = 1 + random.below(3);
+        let priorities = (0..kinds).map(|_| random.of(&palette)).collect();
+        let objects = random.of(&[1, 1, 1, 2, 2, 4]);
+        if objects == OBJECTS {
+            // So that one task comes to own all four.
+            weights[LOCK as usize] *= 6;
+            weights[TRY_LOCK as usize] *= 6;
+            weights[UNLOCK as usize] /= 4;
+        }
         Self {
             weights,
-            priorities: (0..kinds).map(|_| random.of(&palette)).collect(),
+            priorities,
             sizes,
-            objects: random.of(&[1, 1, 1, 2, 2, 4]),
+            objects,
             tasks_before_start: tasks,
             calls_before_start: random.of(&[0, 0, 0, 2, 5, 20]),
             obedience: random.of(&[20, 60, 80, 95]),

@@ -1,3 +1,4 @@
+-- `add_late_number` meets its contract: three checks, in order.
 use borrow.Author.Needs.{needs}
 use Rattle.add.proofs.add_late_number.Statement.{statement}
 use Rattle.add.proofs.add_late_number.Tie as tie

@@ -1,3 +1,4 @@
+-- `add_number` meets its contract: wholeness and the arena first, then the late checks.
 use borrow.Author.Needs.{needs}
 use Rattle.add.proofs.add_number.Statement.{statement}
 use Rattle.add.proofs.add_number.Tie as tie

@@ -1,3 +1,4 @@
+-- `add_task` meets its contract: refused with nothing altered, or added and painted.
 use mathlib.Core.Path.{refl, sym, _∙_}
 use native.Mathlib.Omega.{arith}
 use Rattle.base.proofs.Choices.{taken, left, tests}

@@ -1,3 +1,4 @@
+-- `added` meets its contract: the lowest empty slot, the id and the count.
 use Rattle.kernel.specs.Scheduler
 use borrow.Author.Needs.{needs}
 use Rattle.add.proofs.added.Statement.{statement}

@@ -1,3 +1,4 @@
+-- `overlaps` meets its contract: an occupied slot whose region overlaps.
 use borrow.Author.Needs.{needs}
 use Rattle.add.proofs.overlaps.Statement.{statement}
 use Rattle.add.proofs.overlaps.Tie as tie

@@ -2,7 +2,7 @@
 use mathlib.Core.Path.{sym, _∙_}
 use Rattle.kernel.specs.Calls.{try-lock, number}
 use Rattle.kernel.proofs.Accepted.{accepted-is}
-use Rattle.mutex.proofs.Laws.{early, late, try-lock-object}
+use Rattle.table.proofs.Laws.{early, late, try-lock-object}
 use borrow.Author.Needs.{needs}
 use Rattle.mutex.proofs.lock_number.Statement.{statement}
 use Rattle.mutex.proofs.lock_number.Tie as tie

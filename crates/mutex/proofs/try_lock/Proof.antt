@@ -4,7 +4,8 @@ use native.Mathlib.Omega.{arith}
 use Rattle.kernel.specs.Calls.{try-lock, value}
 use Rattle.kernel.proofs.Step.{step-refused, step-accepted}
 use Rattle.kernel.proofs.Accepted.{accepted-is}
-use Rattle.mutex.proofs.Laws.{current-owned, try-lock-object}
+use Rattle.table.proofs.Laws.{try-lock-object}
+use Rattle.mutex.proofs.Laws.{current-owned}
 use borrow.Author.Needs.{needs}
 use Rattle.mutex.proofs.try_lock.Statement.{statement}
 use Rattle.mutex.proofs.try_lock.Tie as tie

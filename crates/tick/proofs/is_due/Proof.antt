@@ -1,3 +1,4 @@
+-- `is_due` meets its contract: the state by its number.
 use Rattle.kernel.specs.Control.{holdsTask}
 use Rattle.kernel.specs.Scheduler.{isDue}
 use borrow.Author.Needs.{needs}

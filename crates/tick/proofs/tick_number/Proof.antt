@@ -1,3 +1,4 @@
+-- `tick_number` meets its contract: two checks, in order.
 use Rattle.kernel.specs.Calls.{number}
 use borrow.Author.Needs.{needs}
 use Rattle.tick.proofs.tick_number.Statement.{statement}

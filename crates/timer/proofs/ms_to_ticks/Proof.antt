@@ -1,3 +1,4 @@
+-- `ms_to_ticks` meets its contract: nothing, no hz, and the product, which fits.
 use mathlib.Core.Path.{refl}
 use Prim.Native.Nat.{ℕ, _*_, _<_, _≤_, _^_}
 use native.Mathlib.Omega.{arith}

@@ -1,0 +1,52 @@
+// Release of a semaphore: synchronization/semaphore.rs of the source.
+use kernel::scheduler::Answer;
+use kernel::scheduler::Kernel;
+use kernel::scheduler::Value;
+use kernel::semaphore::Semaphore;
+use table::answer;
+use table::internal;
+ghost use mathlib.Core.Path.{_≡_};
+ghost use Prim.Native.Nat.{_<_};
+ghost use Rattle.kernel.specs.Kernel.{semaphore};
+ghost use Rattle.kernel.specs.Calls.{release, number, effect, step};
+
+// 19 count 2^32 - 1.
+fn release_number(k: Kernel, s: usize) -> u8
+    ensures { λ r. ⌜ r ≡ number k (release s) ⌝ }
+{
+    if !whole::is_whole(k) {
+        return 1;
+    }
+    if 3 < s {
+        return 20;
+    }
+    let x = k.semaphores[s];
+    answer::refuse_if(x.count == 4294967295, 19, 0)
+}
+
+fn released(k: Kernel, s: usize) -> Kernel
+    requires { ⌜ (s < 4) × (semaphore k s .count < 4294967295) ⌝ }
+    ensures { λ r. ⌜ r ≡ effect k (release s) ⌝ }
+{
+    let x = k.semaphores[s];
+    let q = x.waiters;
+    let waiters = wait_queue::popped(q);
+    let count = x.count + 1;
+    let next = Semaphore { count, waiters };
+    let mut woken = internal::wake_head(k, q);
+    woken.semaphores[s] = next;
+    woken
+}
+
+// Count up, then the head of the queue is dropped and woken; yes where there was one. Refused: 1, 20 and 19.
+pub fn release(k: Kernel, s: usize) -> Answer
+    ensures { λ r. ⌜ r ≡ step k (release s) ⌝ }
+{
+    let number = release_number(k, s);
+    if number != 0 {
+        return answer::refused(number, k);
+    }
+    let x = k.semaphores[s];
+    let dropped = x.waiters.len != 0;
+    answer::accepted(Value::YesNo(dropped), released(k, s))
+}

@@ -1,0 +1,72 @@
+-- `play` meets its contract: after each turn of the loop, what the bytes so far make of session, arena and output.
+use Rattle.session.proofs.Playing.{of, nothing-played, played-more, played-line, played-all, room-left, room-used, room-enough, written-as}
+use Rattle.session.specs.Session.{Plays, replyRoom}
+use lib.ListN.{length, take}
+use borrow.Author.Needs.{needs}
+use native.Mathlib.Omega.{arith}
+use mathlib.Core.Logic.{⊎-elim}
+use mathlib.Core.Path.{_≡_, refl, ap, _∙_}
+use Prim.Native.Nat.{_-_, _*_, _≤_}
+use Rattle.session.proofs.internal.play.Statement.{statement}
+use Rattle.session.proofs.internal.play.Tie as tie
+
+abbrev Inv-loop : tie.InvT-loop
+Inv-loop tables input arena₀ out₀ kernel₀ line₀ n₀ i₀ i-end arena out kernel line n i =
+    (i ≤ length input) × (i-end ≡ length input) × (n ≤ replyRoom tables * i) × (length out ≡ length out₀) × (length arena ≡ length arena₀) × Plays tables (of kernel₀ line₀ 0 .session) arena₀ (take i input) arena out₀ out (of kernel line n)
+
+abbrev μ-loop : tie.MeasureT-loop
+μ-loop tables input arena₀ out₀ kernel₀ line₀ n₀ i₀ i-end arena out kernel line n i = length input - i
+
+loop-holds : tie.Need-loop-holds Inv-loop μ-loop
+loop-holds c = (omega arith, refl, omega arith, refl, refl, nothing-played _ _ _ _)
+
+shared-slice-read-b : tie.Need-shared-slice-read-b Inv-loop μ-loop
+shared-slice-read-b c = omega (arith, c .before .before .loop .inv .1)
+
+end-line-requires : tie.Need-end-line-requires Inv-loop μ-loop
+end-line-requires c κs = omega (arith, room-left (replyRoom (c .before .before .before .before .before .before .before .before .before .before .before .args .tables)) (length (c .before .before .before .before .before .before .before .before .before .before .before .args .input .now)) (length (c .before .before .before .before .before .before .before .before .before .before .before .args .out .now)) (c .before .before .before .before .before .loop .i) (c .before .before .before .before .before .loop .n) (c .before .before .before .before .before .before .before .before .before .before .before .pre) (omega (arith, c .before .before .before .before .before .loop .inv .1)) (c .before .before .before .before .before .loop .inv .2), c .before .before .before .before .before .loop .inv .3)
+
+empty-requires : tie.Need-empty-requires Inv-loop μ-loop
+empty-requires c κs = search needs
+
+lengthened-requires : tie.Need-lengthened-requires Inv-loop μ-loop
+lengthened-requires c κs = search needs
+
+add-i : tie.Need-add-i Inv-loop μ-loop
+add-i c = omega (arith, c .before .before .before .loop .inv .1)
+
+loop-less : tie.Need-loop-less Inv-loop μ-loop
+loop-less c = omega (arith, c .before .before .before .loop .inv .1)
+
+loop-again : tie.Need-loop-again Inv-loop μ-loop
+loop-again c = ⊎-elim
+    (λ w. (omega (arith, c .before .before .before .loop .inv .1), c .before .before .before .loop .inv .1, room-used (replyRoom (c .before .before .before .before .before .before .before .before .before .args .tables)) (c .before .before .before .loop .i) (c .before .before .before .loop .n) _ (c .before .before .before .loop .inv .2) (omega (arith, w .14, w .3 .ensures .1)), ap length (w .11) ∙ w .3 .kept .1 .1 .1 .1 .0 ∙ c .before .before .before .loop .inv .3, ap length (w .10) ∙ w .3 .kept .1 .1 .1 .0 ∙ c .before .before .before .loop .inv .4, played-line (c .before .before .before .before .before .before .before .before .before .args .input .now) (c .before .before .before .loop .i) (omega (arith, c .before .before .before .loop .inv .1)) (w .0 .taken) (c .before .before .before .loop .inv .5) (w .12 ∙ w .3 .ensures .0 .0) (w .13 ∙ w .9 .ensures) (w .10 ∙ w .3 .ensures .0 .1) (written-as (w .11) (w .14) (w .3 .ensures .0 .2))))
+    (λ w. (omega (arith, c .before .before .before .loop .inv .1), c .before .before .before .loop .inv .1, room-used (replyRoom (c .before .before .before .before .before .before .before .before .before .args .tables)) (c .before .before .before .loop .i) (c .before .before .before .loop .n) _ (c .before .before .before .loop .inv .2) (omega (arith, w .6)), ap length (w .3) ∙ c .before .before .before .loop .inv .3, ap length (w .2) ∙ c .before .before .before .loop .inv .4, played-more (c .before .before .before .before .before .before .before .before .before .args .input .now) (c .before .before .before .loop .i) (omega (arith, c .before .before .before .loop .inv .1)) (w .0 .left) (c .before .before .before .loop .inv .5) (w .4) (w .5 ∙ w .1 .ensures) (w .2) (w .3) (w .6)))
+    (c .if1 .came)
+
+same-length : tie.Need-same-length Inv-loop μ-loop
+same-length c = c .before .loop .inv .4
+
+same-length-2 : tie.Need-same-length-2 Inv-loop μ-loop
+same-length-2 c = c .before .loop .inv .3
+
+returns : tie.Need-returns Inv-loop μ-loop
+returns c = (played-all (c .before .before .before .before .before .before .before .args .input .now) (c .before .loop .i) (omega (arith, c .before .loop .inv .1)) (c .before .loop .inv .5), omega (arith, room-enough (replyRoom (c .before .before .before .before .before .before .before .args .tables)) (length (c .before .before .before .before .before .before .before .args .input .now)) (length (c .before .before .before .before .before .before .before .args .out .now)) (c .before .loop .i) (c .before .loop .n) (c .before .before .before .before .before .before .before .pre) (c .before .loop .inv .0) (c .before .loop .inv .2), c .before .loop .inv .3))
+
+pub play-spec : {M : Type 1} → statement M
+play-spec =
+    tie.close
+    (tie.spec
+    Inv-loop
+    μ-loop
+    loop-holds
+    shared-slice-read-b
+    end-line-requires
+    empty-requires
+    lengthened-requires
+    add-i
+    loop-less
+    loop-again
+    same-length
+    same-length-2
+    returns)

@@ -1,0 +1,39 @@
+// Start: sched/scheduler.rs of the source.
+use kernel::control::TaskState;
+use kernel::scheduler::Answer;
+use kernel::scheduler::Kernel;
+use kernel::scheduler::Value;
+use table::answer;
+ghost use mathlib.Core.Path.{_≡_};
+ghost use Rattle.kernel.specs.Calls.{start, number, value, effect, accepted, step};
+
+// 1 not whole; 3 already started.
+fn start_number(k: Kernel) -> u8
+    ensures { λ r. ⌜ r ≡ number k start ⌝ }
+{
+    let whole = whole::is_whole(k);
+    answer::refuse_if(!whole, 1, answer::refuse_if(k.started, 3, 0))
+}
+
+fn started(mut k: Kernel) -> Answer
+    ensures { λ r. ⌜ r ≡ accepted (value k start) (effect k start) ⌝ }
+{
+    let slot = pick::next_task(k);
+    let i = slot.0;
+    let t = k.tasks[i];
+    let next = t.with_state(TaskState::Running);
+    k.started = true;
+    k.tasks[i] = next;
+    k.current = slot;
+    answer::accepted(Value::Turn(slot, t.sp), k)
+}
+
+pub fn start(k: Kernel) -> Answer
+    ensures { λ r. ⌜ r ≡ step k start ⌝ }
+{
+    let number = start_number(k);
+    if number != 0 {
+        return answer::refused(number, k);
+    }
+    started(k)
+}

@@ -1,0 +1,2 @@
+// A kernel as `tables` prints it.
+pub mod internal;

@@ -1,0 +1,2 @@
+// Text in ASCII, written into a lent slice.
+pub mod internal;

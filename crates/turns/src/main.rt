@@ -1,0 +1,47 @@
+// Plays the calls on standard input and prints an answer for each line, as document 01 has it.
+use libc::STDIN_FILENO;
+use libc::STDOUT_FILENO;
+use session::Session;
+
+// The session after a chunk of the input, and whether to read on.
+struct Read {
+    session: Session,
+    more: bool,
+}
+
+// 4,096 bytes at a time: 4,096 × 13 bytes of replies have room in 65,536.
+fn read_on(s: Session, arena: &mut [u32]) -> Read {
+    let mut out = io::large_buffer();
+    let mut input = io::buffer();
+    let got = libc::read(STDIN_FILENO, &mut input);
+    if got <= 0 {
+        let p = session::internal::finish(s, false, arena, &mut out);
+        let len = p.len;
+        let session = p.session;
+        io::write_all(STDOUT_FILENO, &out[..len]);
+        return Read {
+            session,
+            more: false,
+        };
+    }
+    let n = io::count(got, &input);
+    let p = session::internal::play(s, false, &input[..n], arena, &mut out);
+    let len = p.len;
+    let session = p.session;
+    let more = io::write_all(STDOUT_FILENO, &out[..len]);
+    Read { session, more }
+}
+
+fn main() {
+    let mut arena = [0u32; 4096];
+    let mut s = session::open(&mut arena);
+    // Counted down so that the loop ends; no input takes that many reads.
+    let mut reads_left = u64::MAX;
+    let mut more = true;
+    while reads_left > 0 && more {
+        let r = read_on(s, &mut arena);
+        s = r.session;
+        more = r.more;
+        reads_left -= 1;
+    }
+}

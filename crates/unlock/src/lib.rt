@@ -1,0 +1,109 @@
+// Unlock of a mutex: synchronization/mutex.rs of the source.
+use kernel::control::OptionTaskId;
+use kernel::mutex::Mutex;
+use kernel::scheduler::Answer;
+use kernel::scheduler::Kernel;
+use kernel::scheduler::Value;
+use table::answer;
+use table::answer::early_number;
+use table::internal;
+use table::internal::current_id;
+ghost use mathlib.Core.Path.{_≡_};
+ghost use mathlib.Core.Bool.{true, not};
+ghost use Prim.Native.Nat.{ℕ, _<_, _≤_};
+ghost use lib.Dec.{eqb};
+ghost use Rattle.base.specs.Choice.{if_then_else_};
+ghost use Rattle.kernel.specs.Kernel.{slot, current, currentId, slotOf, mutex};
+ghost use Rattle.kernel.specs.WaitQueue.{head};
+ghost use Rattle.kernel.specs.Mutex.{ownsMutex, handedOff, lockFreed};
+ghost use Rattle.kernel.specs.Calls.{unlock, number, effect, step};
+
+// 14 not owner; 15 owned count 0.
+fn unlock_late_number(k: Kernel, m: usize) -> u8
+    requires { ⌜ (current k < 16) × (m < 4) × (slotOf k (currentId k) < 16) ⌝ }
+    ensures { λ r. ⌜ r ≡ (if not (ownsMutex k m) then 14 else if eqb (slot k (slotOf k (currentId k)) .«owned_mutex_count») 0 then 15 else 0) ⌝ }
+{
+    let id = current_id(k);
+    let x = k.mutexes[m];
+    let owner = x.owner;
+    let i = internal::slot_of(k, id);
+    let t = k.tasks[i];
+    let owns = owner.is(id);
+    let none = t.owned_mutex_count == 0;
+    answer::refuse_if(!owns, 14, answer::refuse_if(none, 15, 0))
+}
+
+fn unlock_number(k: Kernel, m: usize) -> u8
+    ensures { λ r. ⌜ r ≡ number k (unlock m) ⌝ }
+{
+    let early = early_number(k, m);
+    if early != 0 {
+        return early;
+    }
+    unlock_late_number(k, m)
+}
+
+// To the head waiter, which is woken.
+fn handed_on(k: Kernel, m: usize) -> Kernel
+    requires { ⌜ (m < 4) × (slotOf k (head (mutex k m .waiters)) < 16 → slot k (slotOf k (head (mutex k m .waiters))) .«owned_mutex_count» ≤ 4) ⌝ }
+    ensures { λ r. ⌜ r ≡ handedOff m k ⌝ }
+{
+    let x = k.mutexes[m];
+    let q = x.waiters;
+    let head = q.ids[0];
+    let owner = OptionTaskId::Some(head);
+    let handoff_to = OptionTaskId::Some(head);
+    let rest = wait_queue::popped(q);
+    let up = internal::owned_up(k, head);
+    let mut next = internal::wake(up, head);
+    next.mutexes[m] = Mutex {
+        locked: true,
+        owner,
+        handoff_to,
+        waiters: rest,
+    };
+    next
+}
+
+fn released(mut k: Kernel, m: usize) -> Kernel
+    requires { ⌜ m < 4 ⌝ }
+    ensures { λ r. ⌜ r ≡ lockFreed m k ⌝ }
+{
+    let x = k.mutexes[m];
+    let owner = OptionTaskId::None;
+    let handoff_to = OptionTaskId::None;
+    let waiters = x.waiters;
+    k.mutexes[m] = Mutex {
+        locked: false,
+        owner,
+        handoff_to,
+        waiters,
+    };
+    k
+}
+
+fn unlocked(k: Kernel, m: usize) -> Kernel
+    requires { ⌜ (current k < 16) × (m < 4) × ((i : ℕ) → i < 16 → slot k i .occupied ≡ true → slot k i .«owned_mutex_count» ≤ 4) ⌝ }
+    ensures { λ r. ⌜ r ≡ effect k (unlock m) ⌝ }
+{
+    let id = current_id(k);
+    let x = k.mutexes[m];
+    let down = internal::owned_down(k, id);
+    if x.waiters.len == 0 {
+        return released(down, m);
+    }
+    handed_on(down, m)
+}
+
+// Handed on to the head waiter, yes; or unlocked, no. Refused: 1, 20, 2, 14 and 15.
+pub fn unlock(k: Kernel, m: usize) -> Answer
+    ensures { λ r. ⌜ r ≡ step k (unlock m) ⌝ }
+{
+    let number = unlock_number(k, m);
+    if number != 0 {
+        return answer::refused(number, k);
+    }
+    let x = k.mutexes[m];
+    let more = x.waiters.len != 0;
+    answer::accepted(Value::YesNo(more), unlocked(k, m))
+}

@@ -1,0 +1,33 @@
+#!/usr/bin/env python3
+"""Lists parted by `new` on standard input: runs a program once for each and compares what it prints with model.py, byte for byte.
+
+  against.py turns|tables PROGRAM [ARG..]"""
+import subprocess
+import sys
+
+sys.dont_write_bytecode = True
+import model
+
+
+def main():
+    if len(sys.argv) < 3 or sys.argv[1] not in ("turns", "tables"):
+        sys.exit(__doc__)
+    mode, program = sys.argv[1], sys.argv[2:]
+    lists = [part for part in sys.stdin.buffer.read().split(b"new\n") if part]
+    calls = 0
+    for data in lists:
+        want = []
+        model.run(data, mode == "tables", want)
+        got = subprocess.run(program, input=data, capture_output=True)
+        if got.stdout != "".join(want).encode() or got.returncode != 0:
+            calls, lines = data.split(b"\n"), got.stdout.decode(errors="replace").splitlines(True)
+            first = next((n for n, w in enumerate(want) if lines[n:n + 1] != [w]), len(want))
+            print(f"differs, status {got.returncode}, after the last of these calls:")
+            print(b"\n".join(calls[:first // (2 if mode == "tables" else 1) + 1]).decode(errors="replace"))
+            print("model:   " + "".join(want[first:first + 1]) + "program: " + "".join(lines[first:first + 1]), end="")
+            sys.exit(1)
+        calls += data.count(b"\n")
+    print(f"{len(lists)} lists, {calls} calls: equal")
+
+
+main()
