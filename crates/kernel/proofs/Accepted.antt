@@ -2,9 +2,9 @@
 use Prim.Native.Nat.{ℕ, _-_, _^_, _≤_, _<_}
 use native.Mathlib.Omega.{arith}
 use mathlib.Core.Path.{_≡_}
-use mathlib.Core.Bool.{Bool, true, not, _&&_}
+use mathlib.Core.Bool.{Bool, true, false, not, _&&_}
 use mathlib.Core.List.{List}
-use lib.Dec.{ltb, lit<}
+use lib.Dec.{eqb, ltb, lit<}
 use lib.ListN.{length}
 use borrow.Author.Tests.{eqb-true, eqb-false, leb-false, ltb-false}
 use Rattle.base.specs.Choice.{if_then_else_}
@@ -85,3 +85,16 @@ object-checks b o n e =
     let c1 = clear b 1 _ (lit< tt) e in
     let c20 = clear (ltb 3 o) 20 n (lit< tt) (c1 .1) in
     (omega (arith, ltb-false 3 o (c20 .0)), c20 .1)
+
+-- an accepted start found the kernel not started, an accepted switch found it started; an accepted status is not Running
+pub start-off : (k : Kernel) → number k start ≡ 0 → k .started ≡ false
+unfolding number
+start-off k e = clear _ _ _ (lit< tt) (clear _ _ _ (lit< tt) e .1) .0
+
+pub switch-on : (k : Kernel) (arena : List ℕ) (sp : ℕ) → number k (switch arena sp) ≡ 0 → k .started ≡ true
+unfolding number
+switch-on k arena sp e = not-clear _ (clear _ _ _ (lit< tt) (clear _ _ _ (lit< tt) e .1) .0)
+
+pub status-not-running : (k : Kernel) (s : ℕ) → number k (status s) ≡ 0 → eqb s 1 ≡ false
+unfolding number
+status-not-running k s e = or-left _ _ (clear _ _ _ (lit< tt) (clear _ _ _ (lit< tt) (clear _ _ _ (lit< tt) e .1) .1) .0)
