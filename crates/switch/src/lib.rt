@@ -76,16 +76,6 @@ fn context_saved(mut t: TaskControl, sp: u32) -> TaskControl
     t
 }
 
-fn save_context(mut k: Kernel, sp: u32) -> Kernel
-    requires { ⌜ current k < 16 ⌝ }
-    ensures { λ r. ⌜ r ≡ saveContext sp k ⌝ }
-{
-    let i = k.current.0;
-    let next = context_saved(k.tasks[i], sp);
-    k.tasks[i] = next;
-    k
-}
-
 fn reloaded(mut t: TaskControl) -> TaskControl
     ensures { λ r. ⌜ r ≡ reloaded t ⌝ }
 {
@@ -96,18 +86,20 @@ fn reloaded(mut t: TaskControl) -> TaskControl
     t
 }
 
-fn switched(k: Kernel, sp: u32) -> Answer
+fn switched(mut k: Kernel, sp: u32) -> Answer
     requires { ⌜ current k < 16 ⌝ }
     ensures { λ r. ⌜ r ≡ accepted (picked (saveContext sp k)) (Scheduler.switch sp k) ⌝ }
 {
-    let mut next_kernel = save_context(k, sp);
-    let slot = pick::next_task(next_kernel);
+    let c = k.current.0;
+    let saved = context_saved(k.tasks[c], sp);
+    k.tasks[c] = saved;
+    let slot = pick::next_task(k);
     let i = slot.0;
-    let t = next_kernel.tasks[i];
+    let t = k.tasks[i];
     let next = reloaded(t).with_state(TaskState::Running);
-    next_kernel.tasks[i] = next;
-    next_kernel.current = slot;
-    answer::accepted(Value::Turn(slot, t.sp), next_kernel)
+    k.tasks[i] = next;
+    k.current = slot;
+    answer::accepted(Value::Turn(slot, t.sp), k)
 }
 
 // Stores sp in current and picks. Refused: 1, 2, 16 and 17.

@@ -5,16 +5,13 @@ use kernel::scheduler::Answer;
 use kernel::scheduler::Kernel;
 use kernel::scheduler::Value;
 use table::answer;
-use table::internal;
 ghost use mathlib.Core.Path.{_≡_};
-ghost use mathlib.Core.List.{map};
 ghost use Prim.Native.Nat.{_+_, _-_, _^_, _<_, _≤_};
-ghost use Rattle.base.specs.Below.{anyBelow};
 ghost use Rattle.kernel.specs.declared.control.TaskState.the-variants.{Running};
 ghost use Rattle.kernel.specs.declared.scheduler.Value.the-variants.{YesNo};
 ghost use Rattle.kernel.specs.Control.{inState};
-ghost use Rattle.kernel.specs.Kernel.{slot, charge, at, current};
-ghost use Rattle.kernel.specs.Scheduler.{isDue, woken, advanced, spent, wants, sliced};
+ghost use Rattle.kernel.specs.Kernel.{charge, at, current};
+ghost use Rattle.kernel.specs.Scheduler.{isDue, woken, spent};
 ghost use Rattle.kernel.specs.Calls.{tick, number, value, effect, accepted, step};
 
 // 1 not whole; 18 tick_count 2^64 - 1.
@@ -45,41 +42,6 @@ fn woken(t: TaskControl, now: u64) -> TaskControl
     t
 }
 
-// The slots once every sleeper that is due is Ready, and whether there was one.
-struct WokenSlots {
-    tasks: [TaskControl; Kernel::MAX_TASKS],
-    woke: bool,
-}
-
-fn wake_due(k: Kernel, now: u64) -> WokenSlots
-    ensures { λ r. ⌜ (r .tasks ≡ map (woken now) (k .tasks)) × (r .woke ≡ anyBelow (λ i. isDue now (slot k i)) 16) ⌝ }
-{
-    let mut tasks = k.tasks;
-    let mut woke = false;
-    for i in 0..Kernel::MAX_TASKS {
-        let t = k.tasks[i];
-        let next = woken(t, now);
-        tasks[i] = next;
-        woke = woke | is_due(t, now);
-    }
-    WokenSlots { tasks, woke }
-}
-
-// tick_count up, the charge of current up if started, and those slots.
-fn advanced(mut k: Kernel, tasks: [TaskControl; Kernel::MAX_TASKS]) -> Kernel
-    requires { ⌜ (tasks ≡ map (woken (k .«tick_count» + 1)) (k .tasks)) × (current k < 16) × (k .«tick_count» < 2 ^ 64 - 1) × (charge k (current k) ≤ k .«tick_count») ⌝ }
-    ensures { λ r. ⌜ r ≡ advanced k ⌝ }
-{
-    k.tasks = tasks;
-    k.tick_count = k.tick_count + 1;
-    if !k.started {
-        return k;
-    }
-    let i = k.current.0;
-    k.charges[i] = k.charges[i] + 1;
-    k
-}
-
 fn one_less(n: u32) -> u32
     ensures { λ r. ⌜ r ≡ n - 1 ⌝ }
 {
@@ -106,40 +68,32 @@ fn is_running(t: TaskControl) -> bool
     state.number() == 1
 }
 
-// Current runs on, with one tick less.
-fn spend(mut k: Kernel) -> Kernel
-    requires { ⌜ current k < 16 ⌝ }
-    ensures { λ r. ⌜ r ≡ at (current k) spent k ⌝ }
+fn ticked(mut k: Kernel) -> Answer
+    requires { ⌜ (current k < 16) × (k .«tick_count» < 2 ^ 64 - 1) × (charge k (current k) ≤ k .«tick_count») ⌝ }
+    ensures { λ r. ⌜ r ≡ accepted (value k tick) (effect k tick) ⌝ }
 {
-    let i = k.current.0;
-    let next = spent(k.tasks[i]);
-    k.tasks[i] = next;
-    k
-}
-
-// What current makes of the tick.
-fn sliced(k: Kernel, woke: bool) -> Answer
-    requires { ⌜ current k < 16 ⌝ }
-    ensures { λ r. ⌜ r ≡ accepted (YesNo (wants woke k)) (sliced k) ⌝ }
-{
+    let now = k.tick_count + 1;
+    k.tick_count = now;
+    let mut woke = false;
+    for i in 0..Kernel::MAX_TASKS {
+        let t = k.tasks[i];
+        let next = woken(t, now);
+        k.tasks[i] = next;
+        woke = woke | is_due(t, now);
+    }
     if !k.started {
         return answer::accepted(Value::YesNo(false), k);
     }
-    let t = internal::current_task(k);
+    let i = k.current.0;
+    k.charges[i] = k.charges[i] + 1;
+    let t = k.tasks[i];
     if !is_running(t) {
         return answer::accepted(Value::YesNo(true), k);
     }
     let wanted = woke | (one_less(t.remaining_slice) == 0);
-    answer::accepted(Value::YesNo(wanted), spend(k))
-}
-
-fn ticked(k: Kernel) -> Answer
-    requires { ⌜ (current k < 16) × (k .«tick_count» < 2 ^ 64 - 1) × (charge k (current k) ≤ k .«tick_count») ⌝ }
-    ensures { λ r. ⌜ r ≡ accepted (value k tick) (effect k tick) ⌝ }
-{
-    let w = wake_due(k, k.tick_count + 1);
-    let slots = w.tasks;
-    sliced(advanced(k, slots), w.woke)
+    let next = spent(t);
+    k.tasks[i] = next;
+    answer::accepted(Value::YesNo(wanted), k)
 }
 
 pub fn update_tick(k: Kernel) -> Answer

@@ -1,4 +1,6 @@
-// Operations on a wait queue by value: synchronization/wait_queue.rs of the source. Each takes any queue, whatever its length says.
+// Operations on a wait queue: synchronization/wait_queue.rs of the source. Module `lent` has them on a queue that is lent, as the source does; here each takes a queue and returns one. Any queue is taken, whatever its length says.
+pub mod lent;
+
 use kernel::control::TaskId;
 use kernel::wait_queue::WaitQueue;
 ghost use mathlib.Core.Path.{_≡_};
@@ -18,11 +20,19 @@ fn position(q: WaitQueue, id: TaskId) -> usize
     WaitQueue::MAX_WAITERS
 }
 
+// The work of `contains`.
+fn is_found(q: WaitQueue, id: TaskId) -> bool
+    ensures { λ r. ⌜ r ≡ contains q id ⌝ }
+{
+    position(q, id) < WaitQueue::MAX_WAITERS
+}
+
 // Whether the id is queued.
 pub fn contains(q: WaitQueue, id: TaskId) -> bool
     ensures { λ r. ⌜ r ≡ contains q id ⌝ }
 {
-    position(q, id) < WaitQueue::MAX_WAITERS
+    let queue = q;
+    lent::contains(&queue, id)
 }
 
 // Whether eight are queued and the id is not among them.
@@ -32,8 +42,8 @@ pub fn no_room(q: WaitQueue, id: TaskId) -> bool
     (WaitQueue::MAX_WAITERS <= q.len) & !contains(q, id)
 }
 
-// The id at the end; a full queue stays.
-pub fn pushed(mut q: WaitQueue, id: TaskId) -> WaitQueue
+// The work of `push`.
+fn with_last(mut q: WaitQueue, id: TaskId) -> WaitQueue
     ensures { λ r. ⌜ r ≡ pushed q id ⌝ }
 {
     let at = q.len;
@@ -43,6 +53,15 @@ pub fn pushed(mut q: WaitQueue, id: TaskId) -> WaitQueue
     q.ids[at] = id;
     q.len = at + 1;
     q
+}
+
+// The id at the end; a full queue stays.
+pub fn pushed(q: WaitQueue, id: TaskId) -> WaitQueue
+    ensures { λ r. ⌜ r ≡ pushed q id ⌝ }
+{
+    let mut queue = q;
+    lent::push(&mut queue, id);
+    queue
 }
 
 // The id at the end unless it is queued.
@@ -95,8 +114,8 @@ fn without(q: WaitQueue, i: usize) -> WaitQueue
     }
 }
 
-// The head dropped; an empty queue stays.
-pub fn popped(q: WaitQueue) -> WaitQueue
+// The work of `pop`.
+fn without_first(q: WaitQueue) -> WaitQueue
     ensures { λ r. ⌜ r ≡ popped q ⌝ }
 {
     if q.len == 0 {
@@ -105,8 +124,17 @@ pub fn popped(q: WaitQueue) -> WaitQueue
     without(q, 0)
 }
 
-// The id taken out where it waits first; a queue without it stays.
-pub fn removed(q: WaitQueue, id: TaskId) -> WaitQueue
+// The head dropped; an empty queue stays.
+pub fn popped(q: WaitQueue) -> WaitQueue
+    ensures { λ r. ⌜ r ≡ popped q ⌝ }
+{
+    let mut queue = q;
+    lent::pop(&mut queue);
+    queue
+}
+
+// The work of `remove`.
+fn without_id(q: WaitQueue, id: TaskId) -> WaitQueue
     ensures { λ r. ⌜ r ≡ removed q id ⌝ }
 {
     let at = position(q, id);
@@ -114,4 +142,13 @@ pub fn removed(q: WaitQueue, id: TaskId) -> WaitQueue
         return without(q, at);
     }
     q
+}
+
+// The id taken out where it waits first; a queue without it stays.
+pub fn removed(q: WaitQueue, id: TaskId) -> WaitQueue
+    ensures { λ r. ⌜ r ≡ removed q id ⌝ }
+{
+    let mut queue = q;
+    lent::remove(&mut queue, id);
+    queue
 }

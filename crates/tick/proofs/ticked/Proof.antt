@@ -1,28 +1,139 @@
--- `ticked` meets its contract, by those of `wake_due`, `advanced` and `sliced`.
-use Rattle.kernel.specs.Scheduler
-use Rattle.kernel.specs.Scheduler.{wantsSwitch, advanced}
-use Rattle.kernel.specs.Calls.{value, effect}
+-- `ticked` meets its contract: the loop wakes the slots in place, then current is charged and spends a tick.
+use borrow.Author.Tests.{not-true, not-false}
+use mathlib.Core.Path.{sym, _∙_}
+use Rattle.tick.proofs.Laws.{Waking, waking-start, waking-size, waking-more, waking-done, waking-current, waking-charge, not-started, not-running, running}
+use Rattle.base.proofs.Loops.{unmapped}
 use borrow.Author.Needs.{needs}
+use native.Mathlib.Omega.{arith}
+use Prim.Native.Nat.{_-_}
 use Rattle.tick.proofs.ticked.Statement.{statement}
 use Rattle.tick.proofs.ticked.Tie as tie
 
-add-wake-due : tie.Need-add-wake-due
-add-wake-due c = search needs
+abbrev Inv-loop : tie.InvT-loop
+Inv-loop k₀ now woke₀ i₀ k woke i = Waking now k₀ k woke i
 
-wake-due-requires : tie.Need-wake-due-requires
-wake-due-requires c κs = search needs
+abbrev μ-loop : tie.MeasureT-loop
+μ-loop k₀ now woke₀ i₀ k woke i = 16 - i
 
-advanced-requires : tie.Need-advanced-requires
-advanced-requires c κs = (c .before .wake-due .ensures .0, c .before .before .before .pre .0, c .before .before .before .pre .1, c .before .before .before .pre .2)
+add-now : tie.Need-add-now Inv-loop μ-loop
+add-now c = search needs
 
-sliced-requires : tie.Need-sliced-requires
-unfolding advanced
-sliced-requires c κs = rw (c .advanced .ensures) (c .before .before .before .before .pre .0)
+loop-holds : tie.Need-loop-holds Inv-loop μ-loop
+loop-holds c = waking-start _ _ (search unmapped)
 
-returns : tie.Need-returns
-unfolding value effect Scheduler.tick wantsSwitch
-returns c = rw (c .sliced .ensures, c .before .advanced .ensures, c .before .before .before .wake-due .ensures .1)
+mul-t : tie.Need-mul-t Inv-loop μ-loop
+mul-t c = search needs
+
+element-copy-out-t : tie.Need-element-copy-out-t Inv-loop μ-loop
+element-copy-out-t c = omega (arith, waking-size (c .before .loop .inv))
+
+woken-requires : tie.Need-woken-requires Inv-loop μ-loop
+woken-requires c κs = search needs
+
+mul-next : tie.Need-mul-next Inv-loop μ-loop
+mul-next c = search needs
+
+element-set-from-next : tie.Need-element-set-from-next Inv-loop μ-loop
+element-set-from-next c = omega (arith, waking-size (c .before .before .before .loop .inv))
+
+is-due-requires : tie.Need-is-due-requires Inv-loop μ-loop
+is-due-requires c κs = search needs
+
+add-i : tie.Need-add-i Inv-loop μ-loop
+add-i c = search needs
+
+loop-less : tie.Need-loop-less Inv-loop μ-loop
+loop-less c = search needs
+
+loop-again : tie.Need-loop-again Inv-loop μ-loop
+loop-again c = waking-more _ _ (c .before .before .before .before .loop .inv) (c .before .before .before .loop-test .taken) (c .before .woken .ensures) (c .is-due .ensures)
+
+accepted-requires : tie.Need-accepted-requires Inv-loop μ-loop
+accepted-requires c κs = search needs
+
+returns : tie.Need-returns Inv-loop μ-loop
+returns c = let d = waking-done (c .before .before .before .loop .inv) (c .before .before .loop-test .left) in c .accepted .ensures ∙ not-started _ _ _ (d .0) (d .1) (not-true _ (c .before .if1 .taken))
+
+mul-k : tie.Need-mul-k Inv-loop μ-loop
+mul-k c = omega (arith, waking-current (c .before .before .loop .inv), c .before .before .before .pre .0)
+
+element-copy-out-k : tie.Need-element-copy-out-k Inv-loop μ-loop
+element-copy-out-k c = omega (arith, waking-current (c .before .before .loop .inv), c .before .before .before .pre .0)
+
+add-k : tie.Need-add-k Inv-loop μ-loop
+add-k c = omega (arith, waking-charge (c .before .before .before .loop .inv), c .before .before .before .before .pre .1, c .before .before .before .before .pre .2)
+
+mul-k-2 : tie.Need-mul-k-2 Inv-loop μ-loop
+mul-k-2 c = omega (arith, waking-current (c .before .before .before .loop .inv), c .before .before .before .before .pre .0)
+
+element-write-k : tie.Need-element-write-k Inv-loop μ-loop
+element-write-k c = omega (arith, waking-current (c .before .before .before .loop .inv), c .before .before .before .before .pre .0)
+
+mul-t-2 : tie.Need-mul-t-2 Inv-loop μ-loop
+mul-t-2 c = omega (arith, waking-current (c .before .before .before .loop .inv), c .before .before .before .before .pre .0)
+
+element-copy-out-t-2 : tie.Need-element-copy-out-t-2 Inv-loop μ-loop
+element-copy-out-t-2 c = omega (arith, waking-current (c .before .before .before .loop .inv), c .before .before .before .before .pre .0)
+
+is-running-requires : tie.Need-is-running-requires Inv-loop μ-loop
+is-running-requires c κs = search needs
+
+accepted-requires-2 : tie.Need-accepted-requires-2 Inv-loop μ-loop
+accepted-requires-2 c κs = search needs
+
+returns-2 : tie.Need-returns-2 Inv-loop μ-loop
+returns-2 c = let d = waking-done (c .before .before .before .before .before .before .before .loop .inv) (c .before .before .before .before .before .before .loop-test .left) in c .accepted2 .ensures ∙ not-running _ _ _ (d .0) (d .1) (not-false _ (c .before .before .before .before .before .if1 .left)) (sym (c .before .before .is-running .ensures) ∙ not-true _ (c .before .if2 .taken))
+
+one-less-requires : tie.Need-one-less-requires Inv-loop μ-loop
+one-less-requires c κs = search needs
+
+spent-requires : tie.Need-spent-requires Inv-loop μ-loop
+spent-requires c κs = search needs
+
+mul-next-2 : tie.Need-mul-next-2 Inv-loop μ-loop
+mul-next-2 c = omega (arith, waking-current (c .before .before .before .before .before .before .before .before .loop .inv), c .before .before .before .before .before .before .before .before .before .pre .0)
+
+element-set-from-next-2 : tie.Need-element-set-from-next-2 Inv-loop μ-loop
+element-set-from-next-2 c = omega (arith, waking-current (c .before .before .before .before .before .before .before .before .loop .inv), c .before .before .before .before .before .before .before .before .before .pre .0)
+
+accepted-requires-3 : tie.Need-accepted-requires-3 Inv-loop μ-loop
+accepted-requires-3 c κs = search needs
+
+returns-3 : tie.Need-returns-3 Inv-loop μ-loop
+returns-3 c = let d = waking-done (c .before .before .before .before .before .before .before .before .before .loop .inv) (c .before .before .before .before .before .before .before .before .loop-test .left) in rw (c .accepted3 .ensures, c .before .before .one-less .ensures, c .before .spent .ensures) (running _ _ _ (d .0) (d .1) (not-false _ (c .before .before .before .before .before .before .before .if1 .left)) (sym (c .before .before .before .before .is-running .ensures) ∙ not-false _ (c .before .before .before .if2 .left)))
 
 pub ticked-spec : {M : Type 1} → statement M
 ticked-spec =
-    tie.close (tie.spec add-wake-due wake-due-requires advanced-requires sliced-requires returns)
+    tie.close
+    (tie.spec
+    Inv-loop
+    μ-loop
+    add-now
+    loop-holds
+    mul-t
+    element-copy-out-t
+    woken-requires
+    mul-next
+    element-set-from-next
+    is-due-requires
+    add-i
+    loop-less
+    loop-again
+    accepted-requires
+    returns
+    mul-k
+    element-copy-out-k
+    add-k
+    mul-k-2
+    element-write-k
+    mul-t-2
+    element-copy-out-t-2
+    is-running-requires
+    accepted-requires-2
+    returns-2
+    one-less-requires
+    spent-requires
+    mul-next-2
+    element-set-from-next-2
+    accepted-requires-3
+    returns-3)

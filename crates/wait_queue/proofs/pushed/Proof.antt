@@ -1,28 +1,20 @@
--- `pushed` meets its contract: a full queue, and one with room.
-use mathlib.Core.Path.{refl}
-use borrow.Author.Tests.{le-leb, lt-leb}
-use Rattle.base.proofs.Choices.{taken, left}
+-- `pushed` meets its contract: it has the shape of `Lends.antt`, over `lent::push`.
+use contract.Running.{givenOf, tables, tablesOf}
+use denote.Triple.Spec.{tripleOf}
+use denote.Triple.Table.{entered, cited}
 use Rattle.kernel.specs.WaitQueue.{pushed}
-use borrow.Author.Needs.{needs}
-use Rattle.wait_queue.proofs.pushed.Statement.{statement}
-use Rattle.wait_queue.proofs.pushed.Tie as tie
+use Rattle.wait_queue.proofs.Lends.{Lent, lends-meets}
+use Rattle.wait_queue.proofs.lent.push.Symbol as lent-def
+use Rattle.wait_queue.proofs.lent.push.Met as lent-thm
+use Rattle.wait_queue.proofs.pushed.Key as key
+use Rattle.wait_queue.proofs.pushed as by-value
+use Rattle.wait_queue.proofs.pushed.Statement as stated
+use Rattle.wait_queue.proofs.pushed.Code as code
 
-returns : tie.Need-returns
-unfolding pushed
-returns c = taken _ _ _ _ (le-leb _ _ (c .if1 .taken)) refl
-
-mul-id : tie.Need-mul-id
-mul-id c = search needs
-
-element-set-from-id : tie.Need-element-set-from-id
-element-set-from-id c = search needs
-
-add-q : tie.Need-add-q
-add-q c = search needs
-
-returns-2 : tie.Need-returns-2
-unfolding pushed
-returns-2 c = left _ _ _ _ (lt-leb _ _ (c .if1 .left)) refl
-
-pub pushed-spec : {M : Type 1} → statement M
-pushed-spec = tie.close (tie.spec returns mul-id element-set-from-id add-q returns-2)
+pub pushed-spec : {M : Type 1} → stated.statement M
+unfolding code.routine tablesOf
+pushed-spec 𝓤 H 𝓜 𝓖 𝓡 =
+    entered 𝓤 H (tripleOf 𝓤 H (𝓖 .A) by-value.signature (by-value.spec 𝓤 H (𝓖 .A) (𝓜 .mem) (𝓡 .run)))
+    (tables 𝓤 H 𝓜 𝓡 code.env .C) (tables 𝓤 H 𝓜 𝓡 code.env .Λ) key.name code.function (code.unfolded 𝓤 H 𝓜 𝓡)
+    (lends-meets 𝓤 H (𝓖 .A) (givenOf 𝓤 H 𝓜 𝓖) pushed lent-def.name (tablesOf 𝓤 H 𝓜 (tables 𝓤 H 𝓜 𝓡 code.env))
+    (cited 𝓤 H (Lent 𝓤 H (𝓖 .A) pushed) 𝓜 𝓡 code.env lent-def.name lent-def.routine code.calls-wait-queue·lent·push (lent-thm.met 𝓤 H 𝓜 𝓖 𝓡)))

@@ -1,7 +1,7 @@
 -- `without` meets its contract: the array is filled place by place.
 use Prim.Native.Nat.{_-_}
 use mathlib.Core.Path.{refl}
-use lib.ListN.{length, replicate}
+use lib.ListN.{replicate}
 use borrow.Author.Needs.{needs}
 use Rattle.base.proofs.Loops.{Filled, filled-start, filled-more, filled-done, filled-length}
 use Rattle.kernel.specs.WaitQueue.{zeroId, placeWithout, without}

@@ -1,0 +1,28 @@
+-- `with_last` meets its contract: a full queue, and one with room.
+use mathlib.Core.Path.{refl}
+use borrow.Author.Tests.{le-leb, lt-leb}
+use Rattle.base.proofs.Choices.{taken, left}
+use Rattle.kernel.specs.WaitQueue.{pushed}
+use borrow.Author.Needs.{needs}
+use Rattle.wait_queue.proofs.with_last.Statement.{statement}
+use Rattle.wait_queue.proofs.with_last.Tie as tie
+
+returns : tie.Need-returns
+unfolding pushed
+returns c = taken _ _ _ _ (le-leb _ _ (c .if1 .taken)) refl
+
+mul-id : tie.Need-mul-id
+mul-id c = search needs
+
+element-set-from-id : tie.Need-element-set-from-id
+element-set-from-id c = search needs
+
+add-q : tie.Need-add-q
+add-q c = search needs
+
+returns-2 : tie.Need-returns-2
+unfolding pushed
+returns-2 c = left _ _ _ _ (lt-leb _ _ (c .if1 .left)) refl
+
+pub with-last-spec : {M : Type 1} → statement M
+with-last-spec = tie.close (tie.spec returns mul-id element-set-from-id add-q returns-2)
