@@ -5,7 +5,6 @@ use kernel::control::TaskControl;
 use kernel::control::TaskId;
 use kernel::scheduler::Answer;
 use kernel::scheduler::Kernel;
-use kernel::scheduler::Value;
 use table::answer;
 ghost use mathlib.Core.Path.{_≡_};
 ghost use mathlib.Core.Bool.{not, _&&_, _||_};
@@ -16,7 +15,9 @@ ghost use Rattle.kernel.specs.Control.{regionEnd, regionFits, regionsOverlap};
 ghost use Rattle.kernel.specs.Kernel.{whole};
 ghost use Rattle.kernel.specs.Scheduler;
 ghost use Rattle.kernel.specs.Scheduler.{lowestEmpty, overlapsPresent};
-ghost use Rattle.kernel.specs.Calls.{add, number, addWords, step};
+ghost use Rattle.kernel.specs.Calls.{add, addWords, step};
+
+pub mod internal;
 
 // The lowest empty slot; 16 where there is none.
 fn free_slot(k: Kernel) -> usize
@@ -72,11 +73,11 @@ fn add_late_number(k: Kernel, region: StackRegion) -> u8
     )
 }
 
-fn add_number(k: Kernel, region: StackRegion, words: usize) -> u8
+fn add_number(k: Kernel, is_whole: bool, region: StackRegion, words: usize) -> u8
+    requires { ⌜ «is_whole» ≡ whole k ⌝ }
     ensures { λ r. ⌜ r ≡ (if not (whole k && eqb words (k .«arena_words»)) then 1 else if leb 16 (lowestEmpty k) then 4 else if not (regionFits (k .«arena_words») region) || overlapsPresent region k then 5 else if ltb 4294967295 (k .«next_id») then 6 else 0) ⌝ }
 {
-    let whole = whole::is_whole(k);
-    let fits = whole & (words == k.arena_words as usize);
+    let fits = is_whole & (words == k.arena_words as usize);
     answer::refuse_if(!fits, 1, add_late_number(k, region))
 }
 
@@ -97,11 +98,5 @@ fn added(mut k: Kernel, priority: Priority, region: StackRegion) -> Kernel
 pub fn add_task(k: Kernel, priority: Priority, region: StackRegion, arena: &mut [u32]) -> Answer
     ensures { λ r. ⌜ (r ≡ step k (add (now (arena .entry)) priority region)) × (now (arena .exit) ≡ addWords k priority region (now (arena .entry))) ⌝ }
 {
-    let number = add_number(k, region, arena.len());
-    if number != 0 {
-        return answer::refused(number, k);
-    }
-    let id = TaskId(k.next_id as u32);
-    stack::internal::paint_region(arena, region);
-    answer::accepted(Value::Id(id), added(k, priority, region))
+    internal::add_task(k, false, priority, region, arena)
 }

@@ -55,10 +55,14 @@ pub or-right : (a b : Bool) → (a || b) ≡ false → b ≡ false
 or-right true b e = absurd (false≢true (sym e))
 or-right false b e = e
 
--- of `not a || b`, b where a holds
+-- `not a || b` says b where a holds
 pub implied : (a b : Bool) → a ≡ true → (not a || b) ≡ true → b ≡ true
 implied true b o e = e
 implied false b o e = absurd (false≢true o)
+
+pub implies : (a b : Bool) → (a ≡ true → b ≡ true) → (not a || b) ≡ true
+implies true b f = f refl
+implies false b f = refl
 
 -- two tests of which each says the other
 pub same-test : (a b : Bool) → (a ≡ true → b ≡ true) → (b ≡ true → a ≡ true) → a ≡ b

@@ -7,15 +7,15 @@ use mathlib.Core.Bool.{Bool, true, false, _&&_, _||_, false≢true}
 use mathlib.Core.List.{List, [], _∷_, _++_, append-assoc, append-nil, map}
 use lib.Dec.{ltb, lit≤}
 use lib.ListN.{length, getD, set, drop, length-append, length-drop, length-map}
-use lib.Seq.{drop-cons, set-at, getD-at, drop-length, getD-set-same, getD-set-other, ext-getD}
-use lib.ListN.{List·getD-append, List·getD-map}
-use native.Mathlib.Decide.{decLt}
+use lib.Seq.{drop-cons, set-at, getD-at, drop-length, getD-set-same, getD-set-other, set-out, ext-getD}
+use lib.ListN.{List·getD-append, List·getD-map, List·getD-eq-default, length-set}
+use native.Mathlib.Decide.{decLt, ℕ-discrete}
 use native.Mathlib.Numerals.{add-one}
 use mir.Val.{boolByte}
 use borrow.Author.Tests.{lt-ltb, le-ltb, ltb-true, ltb-false}
 use Rattle.base.specs.Choice.{if_then_else_}
 use Rattle.base.specs.Below.{allBelow, anyBelow, countBelow, lowestBelow, tabulate}
-use Rattle.base.proofs.Choices.{and-left, and-right, either}
+use Rattle.base.proofs.Choices.{and-left, and-right, either, through}
 
 -- A loop's invariant: x is f of the i turns done, of n.
 abbrev pub Upto : {A : Type 0} → (ℕ → A) → ℕ → A → ℕ → Type 0
@@ -119,6 +119,22 @@ count-some p (suc n) i h e =
       | yes q ↦ count-some p n i q e
       | no q ↦ absurd (false≢true (sym f ∙ rw (← only i n h q) e))
     ])
+
+-- two tests that agree below n
+pub count-same : (p q : ℕ → Bool) (n : ℕ) → ((i : ℕ) → i < n → p i ≡ q i) → countBelow p n ≡ countBelow q n
+unfolding countBelow
+count-same p q zero f = refl
+count-same p q (suc n) f = rw (count-same p q n (λ i h. f i (omega arith)), f n (omega arith))
+
+-- q holds of one number more than p
+pub count-one : (p q : ℕ → Bool) (n x : ℕ) → x < n → p x ≡ false → q x ≡ true → ((i : ℕ) → (i ≡ x → ⊥) → q i ≡ p i) → countBelow q n ≡ suc (countBelow p n)
+unfolding countBelow if_then_else_
+count-one p q zero x h e f s = absurd (omega arith)
+count-one p q (suc n) x h e f s =
+    elim (ℕ-discrete n x) [
+      | yes g ↦ rw (g, e, f, count-same q p x (λ i l. s i (λ d. omega arith)))
+      | no g ↦ rw (s n g, count-one p q n x (omega arith) e f s) (sym (through suc (p n) (suc (countBelow p n)) (countBelow p n)))
+    ]
 
 pub count-start : (p : ℕ → Bool) (n : ℕ) → Upto (countBelow p) n 0 0
 count-start p n = (zero-le, count-none p)
@@ -268,6 +284,23 @@ set-more P d l i y h f p j g =
     elim (decLt j i) [
       | yes q ↦ rw (getD-set-other l i j y d (λ e. omega arith)) (f j q)
       | no q ↦ rw (only j i (omega arith) q, getD-set-same l i y d h) p
+    ]
+
+-- what holds of each place still does once one is set, also where that one is past the end
+pub set-each : {A : Type 0} (P : ℕ → A → Type 0) (d : A) (l : List A) (x : ℕ) (y : A) → P x y → ((j : ℕ) → P j (getD l j d)) → (j : ℕ) → P j (getD (set l x y) j d)
+set-each P d l x y h f j = go (ℕ-discrete j x) (decLt x (length l))
+  where
+    go : Dec (j ≡ x) → Dec (x < length l) → P j (getD (set l x y) j d)
+    go (no n) _ = rw (getD-set-other l x j y d n) (f j)
+    go (yes e) (yes g) = rw (e, getD-set-same l x y d g) h
+    go (yes e) (no g) = rw (set-out l x y (omega arith)) (f j)
+
+-- a place set to what is read past the end
+pub set-default : {A : Type 0} (d : A) (l : List A) (x : ℕ) → getD (set l x d) x d ≡ d
+set-default d l x =
+    elim (decLt x (length l)) [
+      | yes q ↦ getD-set-same l x d d q
+      | no q ↦ List·getD-eq-default (set l x d) d (omega (arith, length-set l x d))
     ]
 
 -- ---- the length of an array in a struct, which is known of its elements as they lie in memory

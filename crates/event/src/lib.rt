@@ -3,33 +3,34 @@ use kernel::control::TaskState;
 use kernel::event::Event;
 use kernel::scheduler::Answer;
 use kernel::scheduler::Kernel;
-use kernel::scheduler::Value;
 use table::answer;
-use table::internal;
 ghost use mathlib.Core.Path.{_≡_};
 ghost use mathlib.Core.Bool.{not, _&&_};
 ghost use Prim.Native.Nat.{_<_};
 ghost use Rattle.base.specs.Choice.{if_then_else_};
-ghost use Rattle.kernel.specs.Kernel.{current, event};
+ghost use Rattle.kernel.specs.Kernel.{current, event, whole};
 ghost use Rattle.kernel.specs.Event.{signalTaken, blockedOnEvent};
 ghost use Rattle.kernel.specs.Calls.{event-wait, noRoom, number, effect, step};
+
+pub mod internal;
 
 // 12 it would block, eight are queued and current is not among them.
 fn wait_late_number(k: Kernel, e: usize) -> u8
     requires { ⌜ (current k < 16) × (e < 4) ⌝ }
     ensures { λ r. ⌜ r ≡ (if not (event k e .signaled) && noRoom k (event k e .waiters) then 12 else 0) ⌝ }
 {
-    let t = internal::current_task(k);
+    let t = table::internal::current_task(k);
     let id = t.id;
     let x = k.events[e];
     let q = x.waiters;
     answer::refuse_if(!x.signaled & wait_queue::no_room(q, id), 12, 0)
 }
 
-fn wait_number(k: Kernel, e: usize) -> u8
+fn wait_number(k: Kernel, is_whole: bool, e: usize) -> u8
+    requires { ⌜ «is_whole» ≡ whole k ⌝ }
     ensures { λ r. ⌜ r ≡ number k (event-wait e) ⌝ }
 {
-    if !whole::is_whole(k) {
+    if !is_whole {
         return 1;
     }
     if 3 < e {
@@ -55,7 +56,7 @@ fn blocked(mut k: Kernel, e: usize) -> Kernel
     requires { ⌜ (current k < 16) × (e < 4) ⌝ }
     ensures { λ r. ⌜ r ≡ blockedOnEvent e k ⌝ }
 {
-    let t = internal::current_task(k);
+    let t = table::internal::current_task(k);
     let id = t.id;
     let x = k.events[e];
     let q = x.waiters;
@@ -65,7 +66,7 @@ fn blocked(mut k: Kernel, e: usize) -> Kernel
         waiters,
     };
     k.events[e] = next;
-    internal::set_status(k, TaskState::Blocked)
+    table::internal::set_status(k, TaskState::Blocked)
 }
 
 fn waited(k: Kernel, e: usize) -> Kernel
@@ -82,10 +83,5 @@ fn waited(k: Kernel, e: usize) -> Kernel
 pub fn wait(k: Kernel, e: usize) -> Answer
     ensures { λ r. ⌜ r ≡ step k (event-wait e) ⌝ }
 {
-    let number = wait_number(k, e);
-    if number != 0 {
-        return answer::refused(number, k);
-    }
-    let got = k.events[e].signaled;
-    answer::accepted(Value::YesNo(got), waited(k, e))
+    internal::wait(k, false, e)
 }

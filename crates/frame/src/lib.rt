@@ -2,7 +2,7 @@
 ghost use mathlib.Core.Path.{_≡_};
 ghost use mathlib.Core.Bool.{true};
 ghost use Prim.Native.Nat.{_+_, _*_, _<_};
-ghost use Rattle.frame.specs.Frame.{emptyLine, lengthened, digit, byteOf, byteAt, isHex, operationOf, usesK, usesY, yOf, operandsFit, malformed, frameOf};
+ghost use Rattle.frame.specs.Frame.{emptyLine, digit, byteOf, byteAt, isHex, operationOf, usesK, usesY, yOf, operandsFit, malformed, frameOf};
 
 // The operations in the order of their numbers; 0x00 and those past 0x14 are unknown.
 pub enum Operation {
@@ -145,6 +145,8 @@ impl Frame {
 
 impl Line {
     pub const ROOM: usize = 12;
+    // The length that stands for any above.
+    pub const TOO_LONG: usize = 13;
 
     pub fn empty() -> Self
         ensures { λ r. ⌜ r ≡ emptyLine ⌝ }
@@ -153,19 +155,6 @@ impl Line {
             bytes: [0; Line::ROOM],
             len: 0,
         }
-    }
-
-    pub fn lengthened(mut self, b: u8) -> Line
-        ensures { λ r. ⌜ r ≡ lengthened self b ⌝ }
-    {
-        if self.len < Line::ROOM {
-            let i = self.len;
-            self.bytes[i] = b;
-            self.len = i + 1;
-            return self;
-        }
-        self.len = 13;
-        self
     }
 
     fn byte_at(self, i: usize) -> u32

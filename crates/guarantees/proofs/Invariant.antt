@@ -2,19 +2,19 @@
 -- `Turn`, a tick is `Tick`, for any ranks; and a charge rises by the ticks made while its slot was current.
 use mathlib.Core.Path.{_≡_, refl, sym, ap, subst, _∙_}
 use mathlib.Core.Bool.{Bool, true, false, not, _&&_, _||_}
-use mathlib.Core.List.{List, map}
+use mathlib.Core.List.{List}
 use mathlib.Core.Logic.{_⊎_, inl, inr, _≢_}
 use Prim.Native.Nat.{ℕ, suc, _+_, _-_, max, _≤_, _<_}
 use native.Mathlib.Decide.{decLt, ℕ-discrete}
 use native.Mathlib.Omega.{arith}
 use lib.Dec.{eqb}
-use lib.ListN.{getD, set, length, length-set, length-map, List·getD-map, List·getD-eq-default}
+use lib.ListN.{getD, set, length, length-set, length-map, List·getD-eq-default}
 use lib.Seq.{getD-set-same, getD-set-other}
 use borrow.Author.Tests.{eqb-false, not-true}
 use Rattle.base.specs.Choice.{if_then_else_}
 use Rattle.base.specs.Below.{anyBelow}
 use Rattle.base.proofs.Choices.{either, taken, left}
-use Rattle.base.proofs.Loops.{lowest-is}
+use Rattle.base.proofs.Loops.{lowest-is, set-each}
 use Rattle.kernel.specs.declared.control.Priority.{Priority}
 use Rattle.kernel.specs.declared.control.StackRegion.{StackRegion}
 use Rattle.kernel.specs.declared.control.TaskControl.{TaskControl}
@@ -26,9 +26,10 @@ use Rattle.kernel.specs.Kernel.{slot, charge, at, current, currentTask}
 use Rattle.kernel.specs.Scheduler.{pick, isReady, priorityOf, nextTask, emptied, lowestEmpty, nextId, isDue, woken, spent, advanced, currentRuns, sliced, wants, wantsSwitch, contextSaved, reloaded, saveContext}
 use Rattle.kernel.specs.Scheduler
 use Rattle.kernel.proofs.Pick.{pick-lt}
+use Rattle.kernel.proofs.Tasks.{woken-slot}
 use Rattle.guarantees.proofs.Fairness.{one-if, View, Turn, Tick, Other}
 use Rattle.guarantees.proofs.BestFirst.{clash, Rather, pick-is}
-use Rattle.guarantees.proofs.Kept.{runs, TaskKept, Kept, task-same, at-slot, state-kept}
+use Rattle.guarantees.proofs.Kept.{runs, TaskKept, Kept, task-same, state-kept}
 
 -- ---- what `Fairness` reads of a kernel
 
@@ -102,7 +103,7 @@ set-quiet k k′ x t stay on charges tasks rest slices vacant = record {
   on = on;
   charges = charges;
   size = rw tasks (length-set (k .tasks) x t);
-  each = rw tasks (at-slot (λ j u. TaskQuiet (slot k j) u) (k .tasks) x t
+  each = rw tasks (set-each (λ j u. TaskQuiet (slot k j) u) blankSlot (k .tasks) x t
       (record { running = λ e. clash e rest; slices = λ _. slices; priority = λ o p. absurd (vacant o p) })
       (λ j. task-quiet (task-same (slot k j))));
 }
@@ -205,13 +206,13 @@ turned k k′ s l f i hs len each tasks now on charges same fit = record {
     u = withState Running (f (getD l s blankSlot))
 
     slices : (j : ℕ) → SliceFits (slot k′ j)
-    slices = rw tasks (at-slot (λ j t. SliceFits t) l s u (fit _ (each s .slices (i .slices s))) (λ j. each j .slices (i .slices j)))
+    slices = rw tasks (set-each (λ j t. SliceFits t) blankSlot l s u (fit _ (each s .slices (i .slices s))) (λ j. each j .slices (i .slices j)))
 
     runner : (j : ℕ) → runs (slot k′ j) ≡ true → j ≡ s
-    runner = rw tasks (at-slot (λ j t. runs t ≡ true → j ≡ s) l s u (λ _. refl) (λ j e. clash e (each j .rest)))
+    runner = rw tasks (set-each (λ j t. runs t ≡ true → j ≡ s) blankSlot l s u (λ _. refl) (λ j e. clash e (each j .rest)))
 
     priorities : (j : ℕ) → priorityOf k′ j ≡ priorityOf k j
-    priorities = rw tasks (at-slot (λ j t. t .priority .0 ≡ priorityOf k j) l s u (ap (λ p. p .0) (same _ ∙ each s .priority)) (λ j. ap (λ p. p .0) (each j .priority)))
+    priorities = rw tasks (set-each (λ j t. t .priority .0 ≡ priorityOf k j) blankSlot l s u (ap (λ p. p .0) (same _ ∙ each s .priority)) (λ j. ap (λ p. p .0) (each j .priority)))
 
 reloaded-fits : (t : TaskControl) → SliceFits t → SliceFits (reloaded t)
 unfolding reloaded
@@ -262,13 +263,6 @@ start-turned k i off = turned k _ (nextTask k) (k .tasks) (λ t. t) i (pick-lt _
     resting j false e = e
 
 -- ---- ticks
-
-blank-woken : (now : ℕ) → woken now blankSlot ≡ blankSlot
-unfolding woken isDue holdsTask if_then_else_
-blank-woken now = refl
-
-woken-slot : (now : ℕ) (l : List TaskControl) (j : ℕ) → getD (map (woken now) l) j blankSlot ≡ woken now (getD l j blankSlot)
-woken-slot now l j = ap (λ (d : TaskControl). getD (map (woken now) l) j d) (sym (blank-woken now)) ∙ List·getD-map (woken now) l j blankSlot
 
 woken-kept : (now : ℕ) (t : TaskControl) → TaskKept t (woken now t)
 unfolding woken
@@ -329,7 +323,7 @@ module _ (k : Kernel) where
 
   tick-slot : (j : ℕ) → TaskTicked (slot k j) (slot (Scheduler.tick k) j)
   tick-slot j = tick-beside (λ x. TaskTicked (slot k j) (slot x j))
-      (at-slot (λ x t. TaskTicked (slot k x) t) (advanced k .tasks) (current (advanced k)) _ (spent-ticked (advanced-slot (current (advanced k)))) (λ x. kept-ticked (advanced-slot x)) j)
+      (set-each (λ x t. TaskTicked (slot k x) t) blankSlot (advanced k .tasks) (current (advanced k)) _ (spent-ticked (advanced-slot (current (advanced k)))) (λ x. kept-ticked (advanced-slot x)) j)
       (kept-ticked (advanced-slot j))
 
   tick-current : current (Scheduler.tick k) ≡ current k

@@ -2,16 +2,14 @@
 -- object call is one, by the changes of one task that it is made of.
 use mathlib.Core.Path.{_≡_, refl, _∙_}
 use mathlib.Core.Bool.{Bool, true, false}
-use mathlib.Core.List.{List}
-use Prim.Native.Nat.{ℕ, _+_, _-_, _≤_, _<_}
-use native.Mathlib.Decide.{decLt, ℕ-discrete}
+use Prim.Native.Nat.{ℕ, _+_, _-_, _≤_}
 use native.Mathlib.Nat.{le-refl, le-trans}
 use native.Mathlib.Omega.{arith}
 use lib.Dec.{eqb, ltb}
 use lib.IntN.{ℤ}
-use lib.ListN.{getD, set, length, length-set}
-use lib.Seq.{getD-set-same, getD-set-other, set-out}
+use lib.ListN.{length, length-set}
 use Rattle.base.proofs.Choices.{either}
+use Rattle.base.proofs.Loops.{set-each}
 use Rattle.kernel.specs.declared.control.OptionTaskId.{OptionTaskId}
 use Rattle.kernel.specs.declared.control.OptionTaskId.the-variants.{None, Some}
 use Rattle.kernel.specs.declared.control.TaskControl.{TaskControl}
@@ -60,22 +58,13 @@ kept-same k = record { stay = refl; on = refl; charges = refl; size = refl; each
 kept-then : {k k′ k″ : Kernel} → Kept k k′ → Kept k′ k″ → Kept k k″
 kept-then p q = record { stay = q .stay ∙ p .stay; on = q .on ∙ p .on; charges = q .charges ∙ p .charges; size = q .size ∙ p .size; each = λ j. task-then (p .each j) (q .each j) }
 
--- each slot of a table in which one is set, also where that one is past the end
-pub at-slot : (P : ℕ → TaskControl → Type 0) (l : List TaskControl) (x : ℕ) (t : TaskControl) → P x t → ((j : ℕ) → P j (getD l j blankSlot)) → (j : ℕ) → P j (getD (set l x t) j blankSlot)
-at-slot P l x t h f j = go (ℕ-discrete j x) (decLt x (length l))
-  where
-    go : Dec (j ≡ x) → Dec (x < length l) → P j (getD (set l x t) j blankSlot)
-    go (no n) d = rw (getD-set-other l x j t blankSlot n) (f j)
-    go (yes e) (yes l<) = rw e (rw (getD-set-same l x t blankSlot l<) h)
-    go (yes e) (no ge) = rw (set-out l x t (omega (arith, ge))) (f j)
-
 at-kept : (x : ℕ) (f : TaskControl → TaskControl) → ((t : TaskControl) → TaskKept t (f t)) → (k : Kernel) → Kept k (at x f k)
 at-kept x f h k = record {
   stay = refl;
   on = refl;
   charges = refl;
   size = length-set (k .tasks) x _;
-  each = at-slot (λ j t. TaskKept (slot k j) t) (k .tasks) x (f (slot k x)) (h (slot k x)) (λ j. task-same (slot k j));
+  each = set-each (λ j t. TaskKept (slot k j) t) blankSlot (k .tasks) x (f (slot k x)) (h (slot k x)) (λ j. task-same (slot k j));
 }
 
 at-id-kept : (a : TaskId) (f : TaskControl → TaskControl) → ((t : TaskControl) → TaskKept t (f t)) → (k : Kernel) → Kept k (atId a f k)

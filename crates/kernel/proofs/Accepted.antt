@@ -2,15 +2,15 @@
 use Prim.Native.Nat.{ℕ, _-_, _^_, _≤_, _<_}
 use native.Mathlib.Omega.{arith}
 use mathlib.Core.Path.{_≡_}
-use mathlib.Core.Bool.{Bool, true, false, not, _&&_}
+use mathlib.Core.Bool.{Bool, true, false, not, _&&_, _||_}
 use mathlib.Core.List.{List}
 use lib.Dec.{eqb, ltb, lit<}
 use lib.ListN.{length}
-use borrow.Author.Tests.{eqb-true, eqb-false, leb-false, ltb-false}
+use borrow.Author.Tests.{eqb-true, eqb-false, leb-false, ltb-true, ltb-false}
 use Rattle.base.specs.Choice.{if_then_else_}
-use Rattle.base.proofs.Choices.{clear, not-clear, and-left, and-right, or-left}
-use Rattle.kernel.specs.Types.{Priority, StackRegion, Kernel}
-use Rattle.kernel.specs.Kernel.{whole}
+use Rattle.base.proofs.Choices.{clear, not-clear, and-left, and-right, or-left, or-right}
+use Rattle.kernel.specs.Types.{TaskId, Priority, StackRegion, Kernel}
+use Rattle.kernel.specs.Kernel.{current, slotOf, whole}
 use Rattle.kernel.specs.Scheduler.{lowestEmpty, overlapsPresent}
 use Rattle.kernel.specs.Calls.{initNumber, Call, add, start, tick, switch, current-id, status, block, sleep, wake, exit, wait, reap, reap-one, result, lock, try-lock, unlock, acquire, try-acquire, release, event-wait, signal, list, hasArenaLength, number}
 use Rattle.kernel.proofs.Whole.{ArenaFits, arena-fits, RegionFits, region-fits, Whole, is-whole}
@@ -77,6 +77,25 @@ add-accepted k arena p r e =
       free = leb-false _ _ (c4 .0);
       region = region-fits _ _ (not-clear _ (or-left _ (overlapsPresent r k) (c5 .0)));
       next = ltb-false _ _ (c6 .0);
+    }
+
+-- the slot of a task that is reaped
+pub record ReapAccepted (k : Kernel) (x : ℕ) : Type 0 where
+  pub is : Whole k
+  pub found : x < 16
+  pub idle : x ≡ 0 → ⊥
+  pub running : x ≡ current k → ⊥
+
+pub reap-accepted : (k : Kernel) (a : TaskId) → number k (reap a) ≡ 0 → ReapAccepted k (slotOf k a)
+unfolding number
+reap-accepted k a e =
+    let c8 = clear _ _ _ (lit< tt) (clear _ _ _ (lit< tt) e .1) in
+    let apart = or-left (eqb (slotOf k a) 0 || eqb (slotOf k a) (current k)) _ (clear _ _ _ (lit< tt) (c8 .1) .0) in
+    record {
+      is = is-whole k (first _ _ e);
+      found = ltb-true _ _ (not-clear _ (c8 .0));
+      idle = eqb-false _ _ (or-left (eqb (slotOf k a) 0) _ apart);
+      running = eqb-false _ _ (or-right (eqb (slotOf k a) 0) _ apart);
     }
 
 -- the checks 1 and 20 begin every call on an object

@@ -3,3 +3,4 @@ pub mod Whole
 pub mod Step
 pub mod Accepted
 pub mod Tasks
+pub mod Stays

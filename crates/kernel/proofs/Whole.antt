@@ -1,11 +1,13 @@
--- What a whole kernel tells, by name.
+-- What a whole kernel tells, by name; and what tells it that it is whole.
 use Prim.Native.Nat.{ℕ, _*_, _%_, _≤_, _<_}
 use mathlib.Core.Path.{_≡_, sym, subst}
 use mathlib.Core.Bool.{true, _&&_}
 use lib.Dec.{leb}
-use borrow.Author.Tests.{leb-true, ltb-true, eqb-true}
-use Rattle.base.proofs.Choices.{and-left, and-right, implied, every-at}
-use Rattle.base.proofs.Loops.{all-at, count-le}
+use borrow.Author.Tests.{leb-true, ltb-true, eqb-true, le-leb, lt-ltb, eq-eqb}
+use Rattle.base.specs.Choice.{every}
+use Rattle.base.specs.Below.{countBelow}
+use Rattle.base.proofs.Choices.{and-left, and-right, implied, implies, every-at}
+use Rattle.base.proofs.Loops.{all-at, all-each, count-le}
 use Rattle.kernel.specs.Types.{StackRegion, Kernel}
 use Rattle.kernel.specs.Control.{regionEnd, regionFits}
 use Rattle.kernel.specs.Kernel.{slot, current, currentTask, charge, mutex, semaphore, event, arenaFits, isOccupied, regionWhole, ownedWhole, queuesWhole, chargeWhole, whole}
@@ -26,6 +28,10 @@ region-fits words r e =
       inside = leb-true _ _ (every-at _ 3 e);
     }
 
+pub fits-region : (words : ℕ) (r : StackRegion) → RegionFits words r → regionFits words r ≡ true
+unfolding regionFits every
+fits-region words r f = rw (eq-eqb _ _ (f .aligned), eq-eqb _ _ (f .multiple), le-leb _ _ (f .long), le-leb _ _ (f .inside))
+
 pub record ArenaFits (words : ℕ) : Type 0 where
   pub low : 2048 ≤ words
   pub high : words ≤ 16384
@@ -34,9 +40,15 @@ pub arena-fits : (words : ℕ) → arenaFits words ≡ true → ArenaFits words
 unfolding arenaFits
 arena-fits words e = record { low = leb-true _ _ (and-left (leb 2048 words) (leb words 16384) e); high = leb-true _ _ (and-right (leb 2048 words) (leb words 16384) e) }
 
+pub fits-arena : (words : ℕ) → ArenaFits words → arenaFits words ≡ true
+unfolding arenaFits
+fits-arena words f = rw (le-leb _ _ (f .low), le-leb _ _ (f .high))
+
 pub record Whole (k : Kernel) : Type 0 where
   pub arena : ArenaFits (k .«arena_words»)
+  pub clock : 1 ≤ k .hz
   pub current-slot : current k < 16
+  pub idle : slot k 0 .occupied ≡ true
   pub running : currentTask k .occupied ≡ true
   pub region : (i : ℕ) → i < 16 → slot k i .occupied ≡ true → RegionFits (k .«arena_words») (slot k i .stack)
   pub owned : (i : ℕ) → i < 16 → slot k i .occupied ≡ true → slot k i .«owned_mutex_count» ≤ 4
@@ -44,6 +56,7 @@ pub record Whole (k : Kernel) : Type 0 where
   pub semaphore-queue : (o : ℕ) → o < 4 → semaphore k o .waiters .len ≤ 8
   pub event-queue : (o : ℕ) → o < 4 → event k o .waiters .len ≤ 8
   pub charges : (i : ℕ) → i < 16 → charge k i ≤ k .«tick_count»
+  pub count : k .«task_count» ≡ countBelow (isOccupied k) 16
   pub tasks : k .«task_count» ≤ 16
 
 pub is-whole : (k : Kernel) → whole k ≡ true → Whole k
@@ -52,7 +65,9 @@ is-whole k e =
     let queues = all-at (queuesWhole k) 4 in
     record {
       arena = arena-fits _ (every-at _ 0 e);
+      clock = leb-true _ _ (every-at _ 1 e);
       current-slot = ltb-true _ _ (every-at _ 2 e);
+      idle = every-at _ 3 e;
       running = every-at _ 4 e;
       region = λ i h o. region-fits _ _ (implied _ _ o (all-at (regionWhole k) 16 i (every-at _ 5 e) h));
       owned = λ i h o. leb-true _ _ (implied _ _ o (all-at (ownedWhole k) 16 i (every-at _ 8 e) h));
@@ -60,5 +75,22 @@ is-whole k e =
       semaphore-queue = λ o h. leb-true _ _ (and-right (leb (mutex k o .waiters .len) 8) (leb (semaphore k o .waiters .len) 8) (and-left _ (leb (event k o .waiters .len) 8) (queues o (every-at _ 6 e) h)));
       event-queue = λ o h. leb-true _ _ (and-right (leb (mutex k o .waiters .len) 8 && leb (semaphore k o .waiters .len) 8) (leb (event k o .waiters .len) 8) (queues o (every-at _ 6 e) h));
       charges = λ i h. leb-true _ _ (all-at (chargeWhole k) 16 i (every-at _ 9 e) h);
+      count = eqb-true _ _ (every-at _ 7 e);
       tasks = subst (λ (n : ℕ). n ≤ 16) (sym (eqb-true _ _ (every-at _ 7 e))) (count-le (isOccupied k) 16);
     }
+
+pub whole-is : (k : Kernel) → Whole k → whole k ≡ true
+unfolding whole every
+whole-is k w =
+    rw (
+      fits-arena _ (w .arena),
+      le-leb _ _ (w .clock),
+      lt-ltb _ _ (w .current-slot),
+      w .idle,
+      w .running,
+      all-each (regionWhole k) 16 (λ i h. implies _ _ (λ o. fits-region _ _ (w .region i h o))),
+      all-each (queuesWhole k) 4 (λ o h. rw (le-leb _ _ (w .mutex-queue o h), le-leb _ _ (w .semaphore-queue o h), le-leb _ _ (w .event-queue o h))),
+      eq-eqb _ _ (w .count),
+      all-each (ownedWhole k) 16 (λ i h. implies _ _ (λ o. le-leb _ _ (w .owned i h o))),
+      all-each (chargeWhole k) 16 (λ i h. le-leb _ _ (w .charges i h)),
+    )

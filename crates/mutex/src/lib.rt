@@ -1,23 +1,20 @@
-// Lock and try lock of a mutex: synchronization/mutex.rs of the source.
+// Lock of a mutex: synchronization/mutex.rs of the source.
 use kernel::control::OptionTaskId;
 use kernel::control::TaskState;
 use kernel::mutex::Mutex;
 use kernel::scheduler::Answer;
 use kernel::scheduler::Kernel;
-use kernel::scheduler::Value;
 use table::answer;
-use table::answer::early_number;
-use table::internal;
 use table::internal::current_id;
 ghost use mathlib.Core.Path.{_≡_};
 ghost use mathlib.Core.Bool.{not, _&&_};
 ghost use Prim.Native.Nat.{_<_, _≤_};
 ghost use Rattle.base.specs.Choice.{if_then_else_};
-ghost use Rattle.kernel.specs.Kernel.{slot, current, currentId, slotOf, mutex};
-ghost use Rattle.kernel.specs.Mutex.{ownsMutex, isHanded, lockTaken, handoffDone, blockedOnMutex, lockAnswer};
-ghost use Rattle.kernel.specs.Calls.{lock, try-lock, noRoom, number, effect, step};
+ghost use Rattle.kernel.specs.Kernel.{slot, current, currentId, slotOf, mutex, whole};
+ghost use Rattle.kernel.specs.Mutex.{ownsMutex, isHanded, handoffDone, blockedOnMutex, lockAnswer};
+ghost use Rattle.kernel.specs.Calls.{lock, noRoom, number, effect, step};
 
-// ---- lock
+pub mod internal;
 
 // 13 locked by current, and not handed to it; 12 it would block, eight are queued and current is not among them.
 fn lock_late_number(k: Kernel, m: usize) -> u8
@@ -35,34 +32,15 @@ fn lock_late_number(k: Kernel, m: usize) -> u8
     answer::refuse_if(recursive, 13, answer::refuse_if(full, 12, 0))
 }
 
-fn lock_number(k: Kernel, m: usize) -> u8
+fn lock_number(k: Kernel, is_whole: bool, m: usize) -> u8
+    requires { ⌜ «is_whole» ≡ whole k ⌝ }
     ensures { λ r. ⌜ r ≡ number k (lock m) ⌝ }
 {
-    let early = early_number(k, m);
+    let early = table::internal::early_number(k, is_whole, m);
     if early != 0 {
         return early;
     }
     lock_late_number(k, m)
-}
-
-// Current's now.
-fn acquired(k: Kernel, m: usize, handoff_to: OptionTaskId) -> Kernel
-    requires { ⌜ (current k < 16) × (m < 4) × (slotOf k (currentId k) < 16 → slot k (slotOf k (currentId k)) .«owned_mutex_count» ≤ 4) ⌝ }
-    ensures { λ r. ⌜ r ≡ lockTaken «handoff_to» m k ⌝ }
-{
-    let id = current_id(k);
-    let x = k.mutexes[m];
-    let owner = OptionTaskId::Some(id);
-    let waiters = x.waiters;
-    let up = internal::owned_up(k, id);
-    let mut next = up;
-    next.mutexes[m] = Mutex {
-        locked: true,
-        owner,
-        handoff_to,
-        waiters,
-    };
-    next
 }
 
 // Handed to current before: the mark is cleared.
@@ -100,7 +78,7 @@ fn blocked(mut k: Kernel, m: usize) -> Kernel
         handoff_to,
         waiters,
     };
-    internal::set_status(k, TaskState::Blocked)
+    table::internal::set_status(k, TaskState::Blocked)
 }
 
 // Whether current owns it and it was handed to current.
@@ -122,7 +100,7 @@ fn locked(k: Kernel, m: usize) -> Kernel
     let x = k.mutexes[m];
     if !x.locked {
         let handoff_to = x.handoff_to;
-        return acquired(k, m, handoff_to);
+        return internal::acquired(k, m, handoff_to);
     }
     if is_handed(k, m) {
         return handoff_done(k, m);
@@ -142,36 +120,5 @@ fn lock_got(k: Kernel, m: usize) -> bool
 pub fn lock(k: Kernel, m: usize) -> Answer
     ensures { λ r. ⌜ r ≡ step k (lock m) ⌝ }
 {
-    let number = lock_number(k, m);
-    if number != 0 {
-        return answer::refused(number, k);
-    }
-    let got = lock_got(k, m);
-    answer::accepted(Value::YesNo(got), locked(k, m))
-}
-
-// ---- try lock
-
-fn tried(k: Kernel, m: usize) -> Kernel
-    requires { ⌜ (current k < 16) × (m < 4) × (slotOf k (currentId k) < 16 → slot k (slotOf k (currentId k)) .«owned_mutex_count» ≤ 4) ⌝ }
-    ensures { λ r. ⌜ r ≡ effect k (try-lock m) ⌝ }
-{
-    let x = k.mutexes[m];
-    if x.locked {
-        return k;
-    }
-    let no_handoff = OptionTaskId::None;
-    acquired(k, m, no_handoff)
-}
-
-// Refused: 1, 20 and 2.
-pub fn try_lock(k: Kernel, m: usize) -> Answer
-    ensures { λ r. ⌜ r ≡ step k (try-lock m) ⌝ }
-{
-    let number = early_number(k, m);
-    if number != 0 {
-        return answer::refused(number, k);
-    }
-    let got = !k.mutexes[m].locked;
-    answer::accepted(Value::YesNo(got), tried(k, m))
+    internal::lock(k, false, m)
 }

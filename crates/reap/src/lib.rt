@@ -5,7 +5,6 @@ use kernel::scheduler::Answer;
 use kernel::scheduler::Kernel;
 use kernel::scheduler::Value;
 use table::answer;
-use table::internal;
 use table::internal::is_terminated;
 ghost use mathlib.Core.Path.{_≡_};
 ghost use mathlib.Core.Bool.{not, _&&_, _||_};
@@ -15,9 +14,11 @@ ghost use Rattle.base.specs.Choice.{if_then_else_};
 ghost use Rattle.kernel.specs.declared.control.TaskState.the-variants.{Terminated};
 ghost use Rattle.kernel.specs.declared.scheduler.Value.the-variants.{Region};
 ghost use Rattle.kernel.specs.Control.{inState, holdsTask};
-ghost use Rattle.kernel.specs.Kernel.{slot, current, slotOf, isPresent};
+ghost use Rattle.kernel.specs.Kernel.{slot, current, slotOf, isPresent, whole};
 ghost use Rattle.kernel.specs.Scheduler.{emptied, reapableSlot};
 ghost use Rattle.kernel.specs.Calls.{reap, reap-one, number, accepted, step};
+
+pub mod internal;
 
 fn emptied(mut k: Kernel, i: usize) -> Kernel
     requires { ⌜ (i < 16) × (1 ≤ k .«task_count») ⌝ }
@@ -42,7 +43,7 @@ fn reaped(k: Kernel, i: usize) -> Answer
 fn reap_late_number(k: Kernel, id: TaskId) -> u8
     ensures { λ r. ⌜ r ≡ (if not (isPresent k id) then 8 else if eqb (slotOf k id) 0 || eqb (slotOf k id) (current k) || not (inState Terminated (slot k (slotOf k id))) then 9 else 0) ⌝ }
 {
-    let i = internal::slot_of(k, id);
+    let i = table::internal::slot_of(k, id);
     if Kernel::MAX_TASKS <= i {
         return 8;
     }
@@ -50,10 +51,11 @@ fn reap_late_number(k: Kernel, id: TaskId) -> u8
     answer::refuse_if(kept, 9, 0)
 }
 
-fn reap_number(k: Kernel, id: TaskId) -> u8
+fn reap_number(k: Kernel, is_whole: bool, id: TaskId) -> u8
+    requires { ⌜ «is_whole» ≡ whole k ⌝ }
     ensures { λ r. ⌜ r ≡ number k (reap id) ⌝ }
 {
-    if !whole::is_whole(k) {
+    if !is_whole {
         return 1;
     }
     reap_late_number(k, id)
@@ -62,12 +64,7 @@ fn reap_number(k: Kernel, id: TaskId) -> u8
 pub fn reap_task(k: Kernel, id: TaskId) -> Answer
     ensures { λ r. ⌜ r ≡ step k (reap id) ⌝ }
 {
-    let number = reap_number(k, id);
-    if number != 0 {
-        return answer::refused(number, k);
-    }
-    let i = internal::slot_of(k, id);
-    reaped(k, i)
+    internal::reap_task(k, false, id)
 }
 
 fn is_reapable(t: TaskControl, i: usize, current: usize) -> bool
@@ -89,23 +86,15 @@ fn reapable(k: Kernel) -> usize
     Kernel::MAX_TASKS
 }
 
-fn reap_one_number(k: Kernel) -> u8
+fn reap_one_number(k: Kernel, is_whole: bool) -> u8
+    requires { ⌜ «is_whole» ≡ whole k ⌝ }
     ensures { λ r. ⌜ r ≡ number k reap-one ⌝ }
 {
-    let whole = whole::is_whole(k);
-    answer::refuse_if(!whole, 1, 0)
+    answer::refuse_if(!is_whole, 1, 0)
 }
 
 pub fn reap_one(k: Kernel) -> Answer
     ensures { λ r. ⌜ r ≡ step k reap-one ⌝ }
 {
-    let number = reap_one_number(k);
-    if number != 0 {
-        return answer::refused(number, k);
-    }
-    let i = reapable(k);
-    if Kernel::MAX_TASKS <= i {
-        return answer::accepted(Value::NoRegion, k);
-    }
-    reaped(k, i)
+    internal::reap_one(k, false)
 }

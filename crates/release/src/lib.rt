@@ -1,20 +1,21 @@
 // Release of a semaphore: synchronization/semaphore.rs of the source.
 use kernel::scheduler::Answer;
 use kernel::scheduler::Kernel;
-use kernel::scheduler::Value;
 use kernel::semaphore::Semaphore;
 use table::answer;
-use table::internal;
 ghost use mathlib.Core.Path.{_≡_};
 ghost use Prim.Native.Nat.{_<_};
-ghost use Rattle.kernel.specs.Kernel.{semaphore};
+ghost use Rattle.kernel.specs.Kernel.{semaphore, whole};
 ghost use Rattle.kernel.specs.Calls.{release, number, effect, step};
 
+pub mod internal;
+
 // 19 count 2^32 - 1.
-fn release_number(k: Kernel, s: usize) -> u8
+fn release_number(k: Kernel, is_whole: bool, s: usize) -> u8
+    requires { ⌜ «is_whole» ≡ whole k ⌝ }
     ensures { λ r. ⌜ r ≡ number k (release s) ⌝ }
 {
-    if !whole::is_whole(k) {
+    if !is_whole {
         return 1;
     }
     if 3 < s {
@@ -33,7 +34,7 @@ fn released(k: Kernel, s: usize) -> Kernel
     let waiters = wait_queue::popped(q);
     let count = x.count + 1;
     let next = Semaphore { count, waiters };
-    let mut woken = internal::wake_head(k, q);
+    let mut woken = table::internal::wake_head(k, q);
     woken.semaphores[s] = next;
     woken
 }
@@ -42,11 +43,5 @@ fn released(k: Kernel, s: usize) -> Kernel
 pub fn release(k: Kernel, s: usize) -> Answer
     ensures { λ r. ⌜ r ≡ step k (release s) ⌝ }
 {
-    let number = release_number(k, s);
-    if number != 0 {
-        return answer::refused(number, k);
-    }
-    let x = k.semaphores[s];
-    let dropped = x.waiters.len != 0;
-    answer::accepted(Value::YesNo(dropped), released(k, s))
+    internal::release(k, false, s)
 }

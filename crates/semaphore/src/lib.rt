@@ -2,17 +2,17 @@
 use kernel::control::TaskState;
 use kernel::scheduler::Answer;
 use kernel::scheduler::Kernel;
-use kernel::scheduler::Value;
 use kernel::semaphore::Semaphore;
 use table::answer;
-use table::internal;
 ghost use mathlib.Core.Path.{_≡_};
 ghost use mathlib.Core.Bool.{not, _&&_};
 ghost use Prim.Native.Nat.{_<_};
 ghost use Rattle.base.specs.Choice.{if_then_else_};
-ghost use Rattle.kernel.specs.Kernel.{current, semaphore};
+ghost use Rattle.kernel.specs.Kernel.{current, semaphore, whole};
 ghost use Rattle.kernel.specs.Semaphore.{hasPermit, permitTaken, blockedOnSemaphore};
 ghost use Rattle.kernel.specs.Calls.{acquire, try-acquire, noRoom, number, effect, step};
+
+pub mod internal;
 
 fn has_permit(k: Kernel, s: usize) -> bool
     requires { ⌜ s < 4 ⌝ }
@@ -28,17 +28,18 @@ fn acquire_late_number(k: Kernel, s: usize) -> u8
     requires { ⌜ (current k < 16) × (s < 4) ⌝ }
     ensures { λ r. ⌜ r ≡ (if not (hasPermit s k) && noRoom k (semaphore k s .waiters) then 12 else 0) ⌝ }
 {
-    let t = internal::current_task(k);
+    let t = table::internal::current_task(k);
     let id = t.id;
     let x = k.semaphores[s];
     let q = x.waiters;
     answer::refuse_if(!(0 < x.count) & wait_queue::no_room(q, id), 12, 0)
 }
 
-fn acquire_number(k: Kernel, s: usize) -> u8
+fn acquire_number(k: Kernel, is_whole: bool, s: usize) -> u8
+    requires { ⌜ «is_whole» ≡ whole k ⌝ }
     ensures { λ r. ⌜ r ≡ number k (acquire s) ⌝ }
 {
-    if !whole::is_whole(k) {
+    if !is_whole {
         return 1;
     }
     if 3 < s {
@@ -64,7 +65,7 @@ fn blocked(mut k: Kernel, s: usize) -> Kernel
     requires { ⌜ (current k < 16) × (s < 4) ⌝ }
     ensures { λ r. ⌜ r ≡ blockedOnSemaphore s k ⌝ }
 {
-    let t = internal::current_task(k);
+    let t = table::internal::current_task(k);
     let id = t.id;
     let x = k.semaphores[s];
     let q = x.waiters;
@@ -74,7 +75,7 @@ fn blocked(mut k: Kernel, s: usize) -> Kernel
         waiters,
     };
     k.semaphores[s] = next;
-    internal::set_status(k, TaskState::Blocked)
+    table::internal::set_status(k, TaskState::Blocked)
 }
 
 fn acquired(k: Kernel, s: usize) -> Kernel
@@ -91,22 +92,17 @@ fn acquired(k: Kernel, s: usize) -> Kernel
 pub fn acquire(k: Kernel, s: usize) -> Answer
     ensures { λ r. ⌜ r ≡ step k (acquire s) ⌝ }
 {
-    let number = acquire_number(k, s);
-    if number != 0 {
-        return answer::refused(number, k);
-    }
-    let got = has_permit(k, s);
-    answer::accepted(Value::YesNo(got), acquired(k, s))
+    internal::acquire(k, false, s)
 }
 
 // ---- try acquire
 
 // 1 not whole; 20 object above 3.
-fn try_acquire_number(k: Kernel, s: usize) -> u8
+fn try_acquire_number(k: Kernel, is_whole: bool, s: usize) -> u8
+    requires { ⌜ «is_whole» ≡ whole k ⌝ }
     ensures { λ r. ⌜ r ≡ number k (try-acquire s) ⌝ }
 {
-    let whole = whole::is_whole(k);
-    answer::refuse_if(!whole, 1, answer::refuse_if(3 < s, 20, 0))
+    answer::refuse_if(!is_whole, 1, answer::refuse_if(3 < s, 20, 0))
 }
 
 fn tried(k: Kernel, s: usize) -> Kernel
@@ -122,10 +118,5 @@ fn tried(k: Kernel, s: usize) -> Kernel
 pub fn try_acquire(k: Kernel, s: usize) -> Answer
     ensures { λ r. ⌜ r ≡ step k (try-acquire s) ⌝ }
 {
-    let number = try_acquire_number(k, s);
-    if number != 0 {
-        return answer::refused(number, k);
-    }
-    let got = has_permit(k, s);
-    answer::accepted(Value::YesNo(got), tried(k, s))
+    internal::try_acquire(k, false, s)
 }

@@ -6,9 +6,9 @@ use mathlib.Core.List.{List, [], _∷_, _++_, append-assoc, append-nil}
 use native.Mathlib.Omega.{arith}
 use native.Mathlib.Nat.{mul-le-mul-left, mul-suc}
 use native.Mathlib.Numerals.{add-one}
-use borrow.Author.Tests.{eq-eqb, ne-eqb}
+use borrow.Author.Tests.{eq-eqb, ne-eqb, lt-ltb, le-ltb}
 use lib.Dec.{eqb}
-use lib.ListN.{length, take, getD}
+use lib.ListN.{length, take, getD, set}
 use lib.Seq.{take-suc, take-all}
 use Rattle.base.proofs.Choices.{taken, left}
 use Rattle.text.specs.Text.{Writes}
@@ -54,7 +54,7 @@ nothing-played tables s arena out = record { session = refl; words = refl; writt
 pub same-bytes : {tables : Bool} {s : Session} {arena arena′ out out′ bs cs : List ℕ} {p : Played} → bs ≡ cs → Plays tables s arena bs arena′ out out′ p → Plays tables s arena cs arena′ out out′ p
 same-bytes {tables} {s} {arena} {arena′} {out} {out′} {bs} {cs} {p} e played = subst (λ (x : List ℕ). Plays tables s arena x arena′ out out′ p) e played
 
-both : {A : Type 0} (f : Session → List ℕ → A) {x y : Session} {a b : List ℕ} → x ≡ y → a ≡ b → f x a ≡ f y b
+pub both : {A : Type 0} (f : Session → List ℕ → A) {x y : Session} {a b : List ℕ} → x ≡ y → a ≡ b → f x a ≡ f y b
 both f {x} {y} {a} {b} e e′ = ap (λ (z : Session). f z a) e ∙ ap (f y) e′
 
 played-byte : {tables : Bool} {s : Session} {arena bs arena′ arena″ out out′ out″ : List ℕ} {p q : Played} (b : ℕ) → Plays tables s arena bs arena′ out out′ p
@@ -76,6 +76,22 @@ of k l n = record { session = record { kernel = k; line = l }; len = n }
 
 same-session : {k k′ : Kernel} {l l′ : Line} (n m : ℕ) → k ≡ k′ → l ≡ l′ → of k l n .session ≡ of k′ l′ m .session
 same-session {k} {k′} {l} {l′} n m e e′ = ap (λ (x : Kernel). of x l 0 .session) e ∙ ap (λ (y : Line). of k′ y 0 .session) e′
+
+-- the line of those bytes and that length
+abbrev pub line : List ℕ → ℕ → Line
+line bytes len = record { bytes = bytes; len = len }
+
+pub same-line : {b b′ : List ℕ} {n n′ : ℕ} → b ≡ b′ → n ≡ n′ → line b n ≡ line b′ n′
+same-line {b} {b′} {n} {n′} e e′ = ap (λ (x : List ℕ). line x n) e ∙ ap (line b′) e′
+
+-- a byte that has room, and one that has none
+pub short-line : (l : Line) (b : ℕ) → l .len < 12 → line (set (l .bytes) (l .len) b) (l .len + 1) ≡ lengthened l b
+unfolding lengthened
+short-line l b h = taken _ _ _ _ (lt-ltb (l .len) 12 h) refl
+
+pub long-line : (l : Line) (b : ℕ) → 12 ≤ l .len → line (l .bytes) 13 ≡ lengthened l b
+unfolding lengthened
+long-line l b h = left _ _ _ _ (le-ltb (l .len) 12 h) refl
 
 -- the text stands where it was written, under other names
 pub written-as : {out out′ out″ text : List ℕ} {at m n : ℕ} → out″ ≡ out′ → n ≡ m → Writes out at text out′ m → Writes out at text out″ n

@@ -2,19 +2,20 @@
 use kernel::event::Event;
 use kernel::scheduler::Answer;
 use kernel::scheduler::Kernel;
-use kernel::scheduler::Value;
 use table::answer;
-use table::internal;
 ghost use mathlib.Core.Path.{_≡_};
 ghost use Prim.Native.Nat.{_<_};
 ghost use Rattle.kernel.specs.Calls.{signal, number, effect, step};
+ghost use Rattle.kernel.specs.Kernel.{whole};
+
+pub mod internal;
 
 // 1 not whole; 20 object above 3.
-fn signal_number(k: Kernel, e: usize) -> u8
+fn signal_number(k: Kernel, is_whole: bool, e: usize) -> u8
+    requires { ⌜ «is_whole» ≡ whole k ⌝ }
     ensures { λ r. ⌜ r ≡ number k (signal e) ⌝ }
 {
-    let whole = whole::is_whole(k);
-    answer::refuse_if(!whole, 1, answer::refuse_if(3 < e, 20, 0))
+    answer::refuse_if(!is_whole, 1, answer::refuse_if(3 < e, 20, 0))
 }
 
 fn signalled(k: Kernel, e: usize) -> Kernel
@@ -28,7 +29,7 @@ fn signalled(k: Kernel, e: usize) -> Kernel
         signaled: (q.len == 0) | x.signaled,
         waiters,
     };
-    let mut woken = internal::wake_head(k, q);
+    let mut woken = table::internal::wake_head(k, q);
     woken.events[e] = next;
     woken
 }
@@ -37,11 +38,5 @@ fn signalled(k: Kernel, e: usize) -> Kernel
 pub fn signal(k: Kernel, e: usize) -> Answer
     ensures { λ r. ⌜ r ≡ step k (signal e) ⌝ }
 {
-    let number = signal_number(k, e);
-    if number != 0 {
-        return answer::refused(number, k);
-    }
-    let x = k.events[e];
-    let dropped = x.waiters.len != 0;
-    answer::accepted(Value::YesNo(dropped), signalled(k, e))
+    internal::signal(k, false, e)
 }

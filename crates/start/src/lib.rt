@@ -6,13 +6,16 @@ use kernel::scheduler::Value;
 use table::answer;
 ghost use mathlib.Core.Path.{_≡_};
 ghost use Rattle.kernel.specs.Calls.{start, number, value, effect, accepted, step};
+ghost use Rattle.kernel.specs.Kernel.{whole};
+
+pub mod internal;
 
 // 1 not whole; 3 already started.
-fn start_number(k: Kernel) -> u8
+fn start_number(k: Kernel, is_whole: bool) -> u8
+    requires { ⌜ «is_whole» ≡ whole k ⌝ }
     ensures { λ r. ⌜ r ≡ number k start ⌝ }
 {
-    let whole = whole::is_whole(k);
-    answer::refuse_if(!whole, 1, answer::refuse_if(k.started, 3, 0))
+    answer::refuse_if(!is_whole, 1, answer::refuse_if(k.started, 3, 0))
 }
 
 fn started(mut k: Kernel) -> Answer
@@ -31,9 +34,5 @@ fn started(mut k: Kernel) -> Answer
 pub fn start(k: Kernel) -> Answer
     ensures { λ r. ⌜ r ≡ step k start ⌝ }
 {
-    let number = start_number(k);
-    if number != 0 {
-        return answer::refused(number, k);
-    }
-    started(k)
+    internal::start(k, false)
 }

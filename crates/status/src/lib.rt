@@ -4,7 +4,6 @@ use kernel::scheduler::Answer;
 use kernel::scheduler::Kernel;
 use kernel::scheduler::Value;
 use table::answer;
-use table::internal;
 ghost use mathlib.Core.Path.{_≡_};
 ghost use mathlib.Core.Bool.{not};
 ghost use Prim.Native.Nat.{_+_, _-_, _^_, _<_, min};
@@ -14,22 +13,25 @@ ghost use Rattle.kernel.specs.Kernel.{current, whole};
 ghost use Rattle.kernel.specs.Scheduler.{sleep as slept};
 ghost use Rattle.kernel.specs.Calls.{current-id, status, block, sleep, number, step};
 
+pub mod internal;
+
 // 1 not whole; 2 not started.
-fn started_number(k: Kernel) -> u8
+fn started_number(k: Kernel, is_whole: bool) -> u8
+    requires { ⌜ «is_whole» ≡ whole k ⌝ }
     ensures { λ r. ⌜ r ≡ (if not (whole k) then 1 else if not (k .started) then 2 else 0) ⌝ }
 {
-    let whole = whole::is_whole(k);
-    answer::refuse_if(!whole, 1, answer::refuse_if(!k.started, 2, 0))
+    answer::refuse_if(!is_whole, 1, answer::refuse_if(!k.started, 2, 0))
 }
 
 pub fn current_task_id(k: Kernel) -> Answer
     ensures { λ r. ⌜ r ≡ step k current-id ⌝ }
 {
-    let number = started_number(k);
+    let is_whole = whole::is_whole(k);
+    let number = started_number(k, is_whole);
     if number != 0 {
         return answer::refused(number, k);
     }
-    let t = internal::current_task(k);
+    let t = table::internal::current_task(k);
     let id = t.id;
     answer::accepted(Value::Id(id), k)
 }
@@ -56,13 +58,13 @@ fn state_of(n: u8) -> TaskState
 }
 
 // 1 not whole; 2 not started; 7 Running, Terminated or above 5.
-fn status_number(k: Kernel, state: u8) -> u8
+fn status_number(k: Kernel, is_whole: bool, state: u8) -> u8
+    requires { ⌜ «is_whole» ≡ whole k ⌝ }
     ensures { λ r. ⌜ r ≡ number k (status state) ⌝ }
 {
-    let whole = whole::is_whole(k);
     let kept = (state == 1) | (5 <= state);
     answer::refuse_if(
-        !whole,
+        !is_whole,
         1,
         answer::refuse_if(!k.started, 2, answer::refuse_if(kept, 7, 0)),
     )
@@ -71,21 +73,13 @@ fn status_number(k: Kernel, state: u8) -> u8
 pub fn set_current_task_status(k: Kernel, state: u8) -> Answer
     ensures { λ r. ⌜ r ≡ step k (status state) ⌝ }
 {
-    let number = status_number(k, state);
-    if number != 0 {
-        return answer::refused(number, k);
-    }
-    answer::accepted(Value::Nothing, internal::set_status(k, state_of(state)))
+    internal::set_current_task_status(k, false, state)
 }
 
 pub fn block_current_task(k: Kernel) -> Answer
     ensures { λ r. ⌜ r ≡ step k block ⌝ }
 {
-    let number = started_number(k);
-    if number != 0 {
-        return answer::refused(number, k);
-    }
-    answer::accepted(Value::Nothing, internal::set_status(k, TaskState::Blocked))
+    internal::block_current_task(k, false)
 }
 
 fn saturating_add(a: u64, b: u64) -> u64
@@ -112,9 +106,5 @@ fn put_to_sleep(mut k: Kernel, ticks: u64) -> Kernel
 pub fn current_task_sleep_ticks(k: Kernel, ticks: u64) -> Answer
     ensures { λ r. ⌜ r ≡ step k (sleep ticks) ⌝ }
 {
-    let number = started_number(k);
-    if number != 0 {
-        return answer::refused(number, k);
-    }
-    answer::accepted(Value::Nothing, put_to_sleep(k, ticks))
+    internal::current_task_sleep_ticks(k, false, ticks)
 }

@@ -6,17 +6,18 @@ use kernel::scheduler::Answer;
 use kernel::scheduler::Kernel;
 use kernel::scheduler::Value;
 use table::answer;
-use table::internal;
 ghost use mathlib.Core.Path.{_≡_};
 ghost use mathlib.Core.Bool.{not};
 ghost use Prim.Native.Nat.{_+_, _/_, _<_, _≤_};
 ghost use lib.ListN.{length};
 ghost use Rattle.base.specs.Choice.{if_then_else_};
 ghost use Rattle.kernel.specs.Control.{spInRange, stackGuardOk};
-ghost use Rattle.kernel.specs.Kernel.{current};
+ghost use Rattle.kernel.specs.Kernel.{current, whole};
 ghost use Rattle.kernel.specs.Scheduler;
 ghost use Rattle.kernel.specs.Scheduler.{contextSaved, saveContext, reloaded};
 ghost use Rattle.kernel.specs.Calls.{switch, number, accepted, picked, step};
+
+pub mod internal;
 
 fn sp_in_range(region: StackRegion, sp: u32) -> bool
     ensures { λ r. ⌜ r ≡ spInRange region sp ⌝ }
@@ -48,18 +49,18 @@ fn switch_late_number(stack: StackRegion, sp: u32, arena: &[u32]) -> u8
     answer::refuse_if(!inside, 16, answer::refuse_if(!intact, 17, 0))
 }
 
-fn switch_number(k: Kernel, sp: u32, arena: &[u32]) -> u8
+fn switch_number(k: Kernel, is_whole: bool, sp: u32, arena: &[u32]) -> u8
+    requires { ⌜ «is_whole» ≡ whole k ⌝ }
     ensures { λ r. ⌜ r ≡ number k (switch (now (arena .entry)) sp) ⌝ }
 {
-    let whole = whole::is_whole(k);
-    let fits = whole & (arena.len() == k.arena_words as usize);
+    let fits = is_whole & (arena.len() == k.arena_words as usize);
     if !fits {
         return 1;
     }
     if !k.started {
         return 2;
     }
-    let t = internal::current_task(k);
+    let t = table::internal::current_task(k);
     let stack = t.stack;
     switch_late_number(stack, sp, arena)
 }
@@ -106,9 +107,5 @@ fn switched(mut k: Kernel, sp: u32) -> Answer
 pub fn switch(k: Kernel, sp: u32, arena: &[u32]) -> Answer
     ensures { λ r. ⌜ r ≡ step k (switch (now (arena .entry)) sp) ⌝ }
 {
-    let number = switch_number(k, sp, arena);
-    if number != 0 {
-        return answer::refused(number, k);
-    }
-    switched(k, sp)
+    internal::switch(k, false, sp, arena)
 }

@@ -1,4 +1,5 @@
 // Look-ups in the task table, and changes of one slot. No calls: some ask something of their caller.
+use crate::answer::refuse_if;
 use kernel::control::TaskControl;
 use kernel::control::TaskId;
 use kernel::control::TaskState;
@@ -8,8 +9,21 @@ ghost use mathlib.Core.Path.{_≡_};
 ghost use Prim.Native.Nat.{_-_, _≤_, _<_};
 ghost use Rattle.kernel.specs.declared.control.TaskState.the-variants.{Terminated};
 ghost use Rattle.kernel.specs.Control.{inState, unblocked};
-ghost use Rattle.kernel.specs.Kernel.{slot, current, currentTask, currentId, slotOf};
+ghost use Rattle.kernel.specs.Kernel.{slot, current, currentTask, currentId, slotOf, whole};
+ghost use Rattle.kernel.specs.Calls.{try-lock, number};
 ghost use Rattle.kernel.specs.Scheduler.{setStatus, wake, wakeHead, ownedUp, ownedDown};
+
+// What every mutex call asks first, and try lock alone: 1 not whole; 20 object above 3; 2 not started.
+pub fn early_number(k: Kernel, is_whole: bool, m: usize) -> u8
+    requires { ⌜ «is_whole» ≡ whole k ⌝ }
+    ensures { λ r. ⌜ r ≡ number k (try-lock m) ⌝ }
+{
+    refuse_if(
+        !is_whole,
+        1,
+        refuse_if(3 < m, 20, refuse_if(!k.started, 2, 0)),
+    )
+}
 
 // The lowest occupied slot that holds the id; 16 where none does.
 pub fn slot_of(k: Kernel, id: TaskId) -> usize

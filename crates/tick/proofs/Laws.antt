@@ -1,11 +1,11 @@
 -- The kernel in the loop of a tick: its slots are filled one by one, all else stays.
 use Prim.Native.Nat.{ℕ, suc, _+_, _≤_, _<_}
-use mathlib.Core.Path.{_≡_, refl, sym, ap, _∙_}
+use mathlib.Core.Path.{_≡_, refl, sym, ap, subst, _∙_}
 use mathlib.Core.Bool.{Bool, true, false, _||_}
 use mathlib.Core.List.{List, map}
 use native.Mathlib.Omega.{arith}
 use lib.ListN.{length, getD, set, drop}
-use lib.Seq.{drop-cons, getD-at}
+use lib.Seq.{drop-cons, getD-at, set-getD}
 use Rattle.base.specs.Below.{anyBelow, tabulate}
 use Rattle.base.proofs.Loops.{Upto, any-start, upto-any, any-done, Filled, filled-start, filled-more, filled-done, filled-length, map-tabulate, tabulate-length}
 use Rattle.kernel.specs.declared.control.TaskControl.{TaskControl}
@@ -13,11 +13,12 @@ use Rattle.kernel.specs.declared.scheduler.Kernel.{Kernel}
 use lib.Dec.{eqb}
 use Prim.Native.Nat.{_-_}
 use Rattle.base.specs.Choice.{if_then_else_}
-use Rattle.kernel.specs.declared.control.TaskState.the-variants.{Running}
+use Rattle.base.proofs.Choices.{taken, left}
+use Rattle.kernel.specs.declared.control.TaskState.the-variants.{Ready, Running}
 use Rattle.kernel.specs.declared.scheduler.Value.the-variants.{YesNo}
 use Rattle.kernel.specs.Control.{inState, blankSlot}
 use Rattle.kernel.specs.Kernel.{slot, charge, at, current, currentTask}
-use Rattle.kernel.specs.Update.{withTasks, withCharges, withTickCount}
+use Rattle.kernel.specs.Update.{withState, withTasks, withCharges, withTickCount}
 use Rattle.kernel.specs.Scheduler
 use Rattle.kernel.specs.Scheduler.{isDue, woken, spent, advanced, sliced, wants, wantsSwitch}
 use Rattle.kernel.specs.Calls.{tick, value, effect, accepted}
@@ -47,14 +48,36 @@ waking-current w = ap current (w .rest)
 pub waking-charge : {now : ℕ} {k₀ k : Kernel} {woke : Bool} {i : ℕ} → Waking now k₀ k woke i → charge k (current k) ≡ charge k₀ (current k₀)
 waking-charge w = ap (λ (x : Kernel). charge x (current x)) (w .rest)
 
-pub waking-more : {now : ℕ} {k₀ k : Kernel} {woke : Bool} {i : ℕ} (next : TaskControl) (due : Bool) → Waking now k₀ k woke i → i < 16 → next ≡ woken now (slot k i) → due ≡ isDue now (slot k i)
+waking-next : {now : ℕ} {k₀ k : Kernel} {woke : Bool} {i : ℕ} (next : TaskControl) (due : Bool) → Waking now k₀ k woke i → i < 16 → next ≡ woken now (slot k i) → due ≡ isDue now (slot k i)
     → Waking now k₀ (withTasks (set (k .tasks) i next) k) (woke || due) (i + 1)
-waking-more {now} {k₀} {k} {woke} {i} next due w h e f = record {
+waking-next {now} {k₀} {k} {woke} {i} next due w h e f = record {
   slots = w .slots;
   rest = ap (λ (x : Kernel). withTasks (set (k .tasks) i next) x) (w .rest);
   filled = filled-more _ _ _ _ _ (w .filled) (omega (arith, h, w .slots)) (e ∙ ap (woken now) (waking-slot w h));
   due = upto-any _ _ _ _ _ (w .due) h (f ∙ ap (isDue now) (waking-slot w h));
 }
+
+or-true : (b : Bool) → (b || true) ≡ true
+or-true true = refl
+or-true false = refl
+
+or-false : (b : Bool) → (b || false) ≡ b
+or-false true = refl
+or-false false = refl
+
+-- a sleeper that is due
+pub waking-due : {now : ℕ} {k₀ k : Kernel} {woke : Bool} {i : ℕ} → Waking now k₀ k woke i → i < 16 → isDue now (slot k i) ≡ true
+    → Waking now k₀ (withTasks (set (k .tasks) i (withState Ready (slot k i))) k) true (i + 1)
+unfolding woken
+waking-due {now} {k₀} {k} {woke} {i} w h e = subst (λ (b : Bool). Waking now k₀ (withTasks (set (k .tasks) i (withState Ready (slot k i))) k) b (i + 1)) (or-true woke) (waking-next _ true w h (taken _ _ _ _ e refl) (sym e))
+
+-- any other slot is left as it is
+pub waking-other : {now : ℕ} {k₀ k : Kernel} {woke : Bool} {i : ℕ} → Waking now k₀ k woke i → i < 16 → isDue now (slot k i) ≡ false → Waking now k₀ k woke (i + 1)
+unfolding woken
+waking-other {now} {k₀} {k} {woke} {i} w h e =
+    let same : withTasks (set (k .tasks) i (slot k i)) k ≡ k = ap (λ (l : List TaskControl). withTasks l k) (set-getD (k .tasks) i blankSlot) in
+    subst (λ (b : Bool). Waking now k₀ k b (i + 1)) (or-false woke)
+    (subst (λ (x : Kernel). Waking now k₀ x (woke || false) (i + 1)) same (waking-next _ false w h (left _ _ _ _ e refl) (sym e)))
 
 pub waking-done : {now : ℕ} {k₀ k : Kernel} {woke : Bool} {i : ℕ} → Waking now k₀ k woke i → 16 ≤ i → (k ≡ withTasks (map (woken now) (k₀ .tasks)) k₀) × (woke ≡ anyBelow (λ j. isDue now (slot k₀ j)) 16)
 waking-done {now} {k₀} {k} {woke} {i} w h =

@@ -6,21 +6,42 @@ use kernel::scheduler::Kernel;
 use kernel::scheduler::Value;
 use table::answer;
 ghost use mathlib.Core.Path.{_≡_};
+ghost use mathlib.Core.Bool.{true, _||_, not};
 ghost use Prim.Native.Nat.{_+_, _-_, _^_, _<_, _≤_};
 ghost use Rattle.kernel.specs.declared.control.TaskState.the-variants.{Running};
 ghost use Rattle.kernel.specs.declared.scheduler.Value.the-variants.{YesNo};
 ghost use Rattle.kernel.specs.Control.{inState};
-ghost use Rattle.kernel.specs.Kernel.{charge, at, current};
-ghost use Rattle.kernel.specs.Scheduler.{isDue, woken, spent};
+ghost use Rattle.kernel.specs.Kernel.{charge, at, current, whole};
+ghost use Rattle.kernel.specs.Scheduler.{isDue, spent};
 ghost use Rattle.kernel.specs.Calls.{tick, number, value, effect, accepted, step};
 
+pub mod internal;
+
+// In a function of its own, so that a kernel that is known to be whole is not copied for the look.
+fn looked_at(k: Kernel) -> bool
+    ensures { λ r. ⌜ r ≡ whole k ⌝ }
+{
+    whole::internal::is_whole(k, false)
+}
+
+// As `whole::internal::is_whole`; a tick is the call made most.
+fn is_whole(k: Kernel, known: bool) -> bool
+    requires { ⌜ (not known || whole k) ≡ true ⌝ }
+    ensures { λ r. ⌜ r ≡ whole k ⌝ }
+{
+    if known {
+        return true;
+    }
+    looked_at(k)
+}
+
 // 1 not whole; 18 tick_count 2^64 - 1.
-fn tick_number(k: Kernel) -> u8
+fn tick_number(k: Kernel, is_whole: bool) -> u8
+    requires { ⌜ «is_whole» ≡ whole k ⌝ }
     ensures { λ r. ⌜ r ≡ number k tick ⌝ }
 {
-    let whole = whole::is_whole(k);
     answer::refuse_if(
-        !whole,
+        !is_whole,
         1,
         answer::refuse_if(k.tick_count == 18446744073709551615, 18, 0),
     )
@@ -31,15 +52,6 @@ fn is_due(t: TaskControl, now: u64) -> bool
 {
     let state = t.state;
     t.occupied & (state.number() == 3) & (t.wake_tick <= now)
-}
-
-fn woken(t: TaskControl, now: u64) -> TaskControl
-    ensures { λ r. ⌜ r ≡ woken now t ⌝ }
-{
-    if is_due(t, now) {
-        return t.with_state(TaskState::Ready);
-    }
-    t
 }
 
 fn one_less(n: u32) -> u32
@@ -77,9 +89,11 @@ fn ticked(mut k: Kernel) -> Answer
     let mut woke = false;
     for i in 0..Kernel::MAX_TASKS {
         let t = k.tasks[i];
-        let next = woken(t, now);
-        k.tasks[i] = next;
-        woke = woke | is_due(t, now);
+        if is_due(t, now) {
+            let next = t.with_state(TaskState::Ready);
+            k.tasks[i] = next;
+            woke = true;
+        }
     }
     if !k.started {
         return answer::accepted(Value::YesNo(false), k);
@@ -99,9 +113,5 @@ fn ticked(mut k: Kernel) -> Answer
 pub fn update_tick(k: Kernel) -> Answer
     ensures { λ r. ⌜ r ≡ step k tick ⌝ }
 {
-    let number = tick_number(k);
-    if number != 0 {
-        return answer::refused(number, k);
-    }
-    ticked(k)
+    internal::update_tick(k, false)
 }

@@ -2,6 +2,8 @@
 use libc::STDIN_FILENO;
 use libc::STDOUT_FILENO;
 use session::Session;
+ghost use mathlib.Core.Path.{_≡_};
+ghost use lib.ListN.{length};
 
 // The session after a chunk of the input, and whether to read on.
 struct Read {
@@ -10,12 +12,13 @@ struct Read {
 }
 
 // 4,096 bytes at a time: 4,096 × 13 bytes of replies have room in 65,536.
-fn read_on(s: Session, arena: &mut [u32]) -> Read {
-    let mut out = io::large_buffer();
+fn read_on(s: Session, arena: &mut [u32], out: &mut [u8]) -> Read
+    requires { ⌜ 65536 ≡ length (now out) ⌝ }
+{
     let mut input = io::buffer();
     let got = libc::read(STDIN_FILENO, &mut input);
     if got <= 0 {
-        let p = session::internal::finish(s, false, arena, &mut out);
+        let p = session::internal::finish(s, false, arena, out);
         let len = p.len;
         let session = p.session;
         io::write_all(STDOUT_FILENO, &out[..len]);
@@ -25,7 +28,7 @@ fn read_on(s: Session, arena: &mut [u32]) -> Read {
         };
     }
     let n = io::count(got, &input);
-    let p = session::internal::play(s, false, &input[..n], arena, &mut out);
+    let p = session::internal::play(s, false, &input[..n], arena, out);
     let len = p.len;
     let session = p.session;
     let more = io::write_all(STDOUT_FILENO, &out[..len]);
@@ -34,12 +37,13 @@ fn read_on(s: Session, arena: &mut [u32]) -> Read {
 
 fn main() {
     let mut arena = [0u32; 4096];
+    let mut out = io::large_buffer();
     let mut s = session::open(&mut arena);
     // Counted down so that the loop ends; no input takes that many reads.
     let mut reads_left = u64::MAX;
     let mut more = true;
     while reads_left > 0 && more {
-        let r = read_on(s, &mut arena);
+        let r = read_on(s, &mut arena, &mut out);
         s = r.session;
         more = r.more;
         reads_left -= 1;

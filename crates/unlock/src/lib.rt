@@ -3,20 +3,19 @@ use kernel::control::OptionTaskId;
 use kernel::mutex::Mutex;
 use kernel::scheduler::Answer;
 use kernel::scheduler::Kernel;
-use kernel::scheduler::Value;
 use table::answer;
-use table::answer::early_number;
-use table::internal;
 use table::internal::current_id;
 ghost use mathlib.Core.Path.{_≡_};
 ghost use mathlib.Core.Bool.{true, not};
 ghost use Prim.Native.Nat.{ℕ, _<_, _≤_};
 ghost use lib.Dec.{eqb};
 ghost use Rattle.base.specs.Choice.{if_then_else_};
-ghost use Rattle.kernel.specs.Kernel.{slot, current, currentId, slotOf, mutex};
+ghost use Rattle.kernel.specs.Kernel.{slot, current, currentId, slotOf, mutex, whole};
 ghost use Rattle.kernel.specs.WaitQueue.{head};
 ghost use Rattle.kernel.specs.Mutex.{ownsMutex, handedOff, lockFreed};
 ghost use Rattle.kernel.specs.Calls.{unlock, number, effect, step};
+
+pub mod internal;
 
 // 14 not owner; 15 owned count 0.
 fn unlock_late_number(k: Kernel, m: usize) -> u8
@@ -26,17 +25,18 @@ fn unlock_late_number(k: Kernel, m: usize) -> u8
     let id = current_id(k);
     let x = k.mutexes[m];
     let owner = x.owner;
-    let i = internal::slot_of(k, id);
+    let i = table::internal::slot_of(k, id);
     let t = k.tasks[i];
     let owns = owner.is(id);
     let none = t.owned_mutex_count == 0;
     answer::refuse_if(!owns, 14, answer::refuse_if(none, 15, 0))
 }
 
-fn unlock_number(k: Kernel, m: usize) -> u8
+fn unlock_number(k: Kernel, is_whole: bool, m: usize) -> u8
+    requires { ⌜ «is_whole» ≡ whole k ⌝ }
     ensures { λ r. ⌜ r ≡ number k (unlock m) ⌝ }
 {
-    let early = early_number(k, m);
+    let early = table::internal::early_number(k, is_whole, m);
     if early != 0 {
         return early;
     }
@@ -54,8 +54,8 @@ fn handed_on(k: Kernel, m: usize) -> Kernel
     let owner = OptionTaskId::Some(head);
     let handoff_to = OptionTaskId::Some(head);
     let rest = wait_queue::popped(q);
-    let up = internal::owned_up(k, head);
-    let mut next = internal::wake(up, head);
+    let up = table::internal::owned_up(k, head);
+    let mut next = table::internal::wake(up, head);
     next.mutexes[m] = Mutex {
         locked: true,
         owner,
@@ -88,7 +88,7 @@ fn unlocked(k: Kernel, m: usize) -> Kernel
 {
     let id = current_id(k);
     let x = k.mutexes[m];
-    let down = internal::owned_down(k, id);
+    let down = table::internal::owned_down(k, id);
     if x.waiters.len == 0 {
         return released(down, m);
     }
@@ -99,11 +99,5 @@ fn unlocked(k: Kernel, m: usize) -> Kernel
 pub fn unlock(k: Kernel, m: usize) -> Answer
     ensures { λ r. ⌜ r ≡ step k (unlock m) ⌝ }
 {
-    let number = unlock_number(k, m);
-    if number != 0 {
-        return answer::refused(number, k);
-    }
-    let x = k.mutexes[m];
-    let more = x.waiters.len != 0;
-    answer::accepted(Value::YesNo(more), unlocked(k, m))
+    internal::unlock(k, false, m)
 }

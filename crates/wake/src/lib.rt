@@ -4,7 +4,6 @@ use kernel::scheduler::Answer;
 use kernel::scheduler::Kernel;
 use kernel::scheduler::Value;
 use table::answer;
-use table::internal;
 ghost use mathlib.Core.Path.{_≡_};
 ghost use mathlib.Core.Bool.{not};
 ghost use Rattle.base.specs.Choice.{if_then_else_};
@@ -12,30 +11,27 @@ ghost use Rattle.kernel.specs.Kernel.{isPresent, whole};
 ghost use Rattle.kernel.specs.Scheduler.{setResult};
 ghost use Rattle.kernel.specs.Calls.{wake, result, step};
 
+pub mod internal;
+
 pub fn wake_task(k: Kernel, id: TaskId) -> Answer
     ensures { λ r. ⌜ r ≡ step k (wake id) ⌝ }
 {
-    let whole = whole::is_whole(k);
-    let number = answer::refuse_if(!whole, 1, 0);
-    if number != 0 {
-        return answer::refused(number, k);
-    }
-    answer::accepted(Value::Nothing, internal::wake(k, id))
+    internal::wake_task(k, false, id)
 }
 
 // 1 not whole; 8 unknown.
-fn result_number(k: Kernel, id: TaskId) -> u8
+fn result_number(k: Kernel, is_whole: bool, id: TaskId) -> u8
+    requires { ⌜ «is_whole» ≡ whole k ⌝ }
     ensures { λ r. ⌜ r ≡ (if not (whole k) then 1 else if not (isPresent k id) then 8 else 0) ⌝ }
 {
-    let whole = whole::is_whole(k);
-    let present = internal::slot_of(k, id) < Kernel::MAX_TASKS;
-    answer::refuse_if(!whole, 1, answer::refuse_if(!present, 8, 0))
+    let present = table::internal::slot_of(k, id) < Kernel::MAX_TASKS;
+    answer::refuse_if(!is_whole, 1, answer::refuse_if(!present, 8, 0))
 }
 
 fn with_result(mut k: Kernel, id: TaskId, result: i32) -> Kernel
     ensures { λ r. ⌜ r ≡ setResult id result k ⌝ }
 {
-    let i = internal::slot_of(k, id);
+    let i = table::internal::slot_of(k, id);
     if Kernel::MAX_TASKS <= i {
         return k;
     }
@@ -48,7 +44,8 @@ fn with_result(mut k: Kernel, id: TaskId, result: i32) -> Kernel
 pub fn set_syscall_result(k: Kernel, id: TaskId, value: i32) -> Answer
     ensures { λ r. ⌜ r ≡ step k (result id value) ⌝ }
 {
-    let number = result_number(k, id);
+    let is_whole = whole::is_whole(k);
+    let number = result_number(k, is_whole, id);
     if number != 0 {
         return answer::refused(number, k);
     }

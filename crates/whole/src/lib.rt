@@ -10,6 +10,8 @@ ghost use Rattle.base.specs.Below.{allBelow, countBelow};
 ghost use Rattle.kernel.specs.Control.{regionFits};
 ghost use Rattle.kernel.specs.Kernel.{arenaFits, isOccupied, regionWhole, ownedWhole, queuesWhole, chargeWhole, whole};
 
+pub mod internal;
+
 pub fn arena_fits(words: usize) -> bool
     ensures { λ r. ⌜ r ≡ arenaFits words ⌝ }
 {

@@ -26,10 +26,11 @@ pub fn parse(line: &[u8]) -> Option<Call> {
 }
 
 fn hex(out: &mut Vec<u8>, value: u64) {
-    for place in (0..12).rev() {
-        out.push(b"0123456789abcdef"[(value >> (4 * place)) as usize & 15]);
+    let mut line = [b'\n'; 13];
+    for place in 0..12 {
+        line[11 - place] = b"0123456789abcdef"[(value >> (4 * place)) as usize & 15];
     }
-    out.push(b'\n');
+    out.extend_from_slice(&line);
 }
 
 pub fn put_call(out: &mut Vec<u8>, call: Call) {

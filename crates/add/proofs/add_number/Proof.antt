@@ -3,9 +3,6 @@ use borrow.Author.Needs.{needs}
 use Rattle.add.proofs.add_number.Statement.{statement}
 use Rattle.add.proofs.add_number.Tie as tie
 
-is-whole-requires : tie.Need-is-whole-requires
-is-whole-requires c κs = search needs
-
 cast-fits : tie.Need-cast-fits
 cast-fits c = search needs
 
@@ -16,9 +13,9 @@ refuse-if-requires : tie.Need-refuse-if-requires
 refuse-if-requires c κs = search needs
 
 returns : tie.Need-returns
-returns c = rw (c .refuse-if .ensures, c .before .add-late-number .ensures, c .before .before .before .is-whole .ensures)
+returns c = rw (c .refuse-if .ensures, c .before .add-late-number .ensures, c .before .before .before .pre)
 
 pub add-number-spec : {M : Type 1} → statement M
 add-number-spec =
     tie.close
-    (tie.spec is-whole-requires cast-fits add-late-number-requires refuse-if-requires returns)
+    (tie.spec cast-fits add-late-number-requires refuse-if-requires returns)

@@ -8,9 +8,6 @@ use borrow.Author.Needs.{needs}
 use Rattle.exit.proofs.exit_number.Statement.{statement}
 use Rattle.exit.proofs.exit_number.Tie as tie
 
-is-whole-requires : tie.Need-is-whole-requires
-is-whole-requires c κs = search needs
-
 returns : tie.Need-returns
 unfolding number
 returns c = taken _ _ _ _ (search tests) refl
@@ -20,7 +17,7 @@ unfolding number
 returns-2 c = left _ _ _ _ (search tests) (taken _ _ _ _ (search needs) refl)
 
 exit-late-number-requires : tie.Need-exit-late-number-requires
-exit-late-number-requires c κs = is-whole _ (sym (c .before .before .before .is-whole .ensures) ∙ not-false _ (c .before .before .if1 .left)) .current-slot
+exit-late-number-requires c κs = is-whole _ (sym (c .before .before .before .pre) ∙ not-false _ (c .before .before .if1 .left)) .current-slot
 
 returns-3 : tie.Need-returns-3
 unfolding number
@@ -28,4 +25,4 @@ returns-3 c = left _ _ _ _ (search tests) (left _ _ _ _ (search needs) (c .exit-
 
 pub exit-number-spec : {M : Type 1} → statement M
 exit-number-spec =
-    tie.close (tie.spec is-whole-requires returns returns-2 exit-late-number-requires returns-3)
+    tie.close (tie.spec returns returns-2 exit-late-number-requires returns-3)

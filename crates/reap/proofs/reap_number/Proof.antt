@@ -6,9 +6,6 @@ use borrow.Author.Needs.{needs}
 use Rattle.reap.proofs.reap_number.Statement.{statement}
 use Rattle.reap.proofs.reap_number.Tie as tie
 
-is-whole-requires : tie.Need-is-whole-requires
-is-whole-requires c κs = search needs
-
 returns : tie.Need-returns
 unfolding number
 returns c = taken _ _ _ _ (search tests) refl
@@ -22,4 +19,4 @@ returns-2 c = left _ _ _ _ (search tests) (c .reap-late-number .ensures)
 
 pub reap-number-spec : {M : Type 1} → statement M
 reap-number-spec =
-    tie.close (tie.spec is-whole-requires returns reap-late-number-requires returns-2)
+    tie.close (tie.spec returns reap-late-number-requires returns-2)

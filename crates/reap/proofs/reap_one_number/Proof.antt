@@ -4,15 +4,12 @@ use borrow.Author.Needs.{needs}
 use Rattle.reap.proofs.reap_one_number.Statement.{statement}
 use Rattle.reap.proofs.reap_one_number.Tie as tie
 
-is-whole-requires : tie.Need-is-whole-requires
-is-whole-requires c κs = search needs
-
 refuse-if-requires : tie.Need-refuse-if-requires
 refuse-if-requires c κs = search needs
 
 returns : tie.Need-returns
 unfolding number
-returns c = rw (c .refuse-if .ensures, c .before .is-whole .ensures)
+returns c = rw (c .refuse-if .ensures, c .before .pre)
 
 pub reap-one-number-spec : {M : Type 1} → statement M
-reap-one-number-spec = tie.close (tie.spec is-whole-requires refuse-if-requires returns)
+reap-one-number-spec = tie.close (tie.spec refuse-if-requires returns)

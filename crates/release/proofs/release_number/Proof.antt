@@ -6,9 +6,6 @@ use borrow.Author.Needs.{needs}
 use Rattle.release.proofs.release_number.Statement.{statement}
 use Rattle.release.proofs.release_number.Tie as tie
 
-is-whole-requires : tie.Need-is-whole-requires
-is-whole-requires c κs = search needs
-
 returns : tie.Need-returns
 unfolding number
 returns c = taken _ _ _ _ (search tests) refl
@@ -34,7 +31,6 @@ pub release-number-spec : {M : Type 1} → statement M
 release-number-spec =
     tie.close
     (tie.spec
-    is-whole-requires
     returns
     returns-2
     mul-x

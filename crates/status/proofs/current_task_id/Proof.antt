@@ -8,6 +8,9 @@ use borrow.Author.Needs.{needs}
 use Rattle.status.proofs.current_task_id.Statement.{statement}
 use Rattle.status.proofs.current_task_id.Tie as tie
 
+is-whole-requires : tie.Need-is-whole-requires
+is-whole-requires c κs = search needs
+
 started-number-requires : tie.Need-started-number-requires
 started-number-requires c κs = search needs
 
@@ -33,6 +36,7 @@ pub current-task-id-spec : {M : Type 1} → statement M
 current-task-id-spec =
     tie.close
     (tie.spec
+    is-whole-requires
     started-number-requires
     refused-requires
     returns

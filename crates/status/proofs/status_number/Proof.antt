@@ -4,9 +4,6 @@ use borrow.Author.Needs.{needs}
 use Rattle.status.proofs.status_number.Statement.{statement}
 use Rattle.status.proofs.status_number.Tie as tie
 
-is-whole-requires : tie.Need-is-whole-requires
-is-whole-requires c κs = search needs
-
 refuse-if-requires : tie.Need-refuse-if-requires
 refuse-if-requires c κs = search needs
 
@@ -18,13 +15,12 @@ refuse-if-requires-3 c κs = search needs
 
 returns : tie.Need-returns
 unfolding number
-returns c = rw (c .refuse-if3 .ensures, c .before .refuse-if2 .ensures, c .before .before .refuse-if .ensures, c .before .before .before .before .is-whole .ensures)
+returns c = rw (c .refuse-if3 .ensures, c .before .refuse-if2 .ensures, c .before .before .refuse-if .ensures, c .before .before .before .before .pre)
 
 pub status-number-spec : {M : Type 1} → statement M
 status-number-spec =
     tie.close
     (tie.spec
-    is-whole-requires
     refuse-if-requires
     refuse-if-requires-2
     refuse-if-requires-3

@@ -10,14 +10,11 @@ use borrow.Author.Needs.{needs}
 use Rattle.switch.proofs.switch_number.Statement.{statement}
 use Rattle.switch.proofs.switch_number.Tie as tie
 
-known : (c : tie.Else2) → Whole (c .before .before .before .before .before .before .args .k)
-known c = is-whole _ (sym (c .before .before .before .before .is-whole .ensures) ∙ and-left _ _ (not-false _ (c .before .before .if1 .left)))
+known : (c : tie.Else2) → Whole (c .before .before .before .before .before .args .k)
+known c = is-whole _ (sym (c .before .before .before .before .before .pre) ∙ and-left _ _ (not-false _ (c .before .before .if1 .left)))
 
-lent : (c : tie.Else2) → length (c .before .before .before .before .before .before .args .arena .now) ≡ c .before .before .before .before .before .before .args .k .«arena_words»
-lent c = eqb-true _ _ (and-right (c .before .before .before .before .is-whole .result) _ (not-false _ (c .before .before .if1 .left)))
-
-is-whole-requires : tie.Need-is-whole-requires
-is-whole-requires c κs = search needs
+lent : (c : tie.Else2) → length (c .before .before .before .before .before .args .arena .now) ≡ c .before .before .before .before .before .args .k .«arena_words»
+lent c = eqb-true _ _ (and-right (c .before .before .before .before .before .args .is-whole) _ (not-false _ (c .before .before .if1 .left)))
 
 cast-fits : tie.Need-cast-fits
 cast-fits c = search needs
@@ -34,7 +31,7 @@ current-task-requires : tie.Need-current-task-requires
 current-task-requires c κs = known c .current-slot
 
 switch-late-number-requires : tie.Need-switch-late-number-requires
-switch-late-number-requires c κs = let w = known (c .before .before) in rw (c .before .current-task .ensures) (omega (arith, w .region (c .before .before .before .before .before .before .before .before .args .k .current .0) (w .current-slot) (w .running), lent (c .before .before)))
+switch-late-number-requires c κs = let w = known (c .before .before) in rw (c .before .current-task .ensures) (omega (arith, w .region (c .before .before .before .before .before .before .before .args .k .current .0) (w .current-slot) (w .running), lent (c .before .before)))
 
 returns-3 : tie.Need-returns-3
 unfolding number
@@ -44,7 +41,6 @@ pub switch-number-spec : {M : Type 1} → statement M
 switch-number-spec =
     tie.close
     (tie.spec
-    is-whole-requires
     cast-fits
     returns
     returns-2

@@ -1,7 +1,8 @@
 -- `ticked` meets its contract: the loop wakes the slots in place, then current is charged and spends a tick.
+use mathlib.Core.Logic.{⊎-elim}
 use borrow.Author.Tests.{not-true, not-false}
 use mathlib.Core.Path.{sym, _∙_}
-use Rattle.tick.proofs.Laws.{Waking, waking-start, waking-size, waking-more, waking-done, waking-current, waking-charge, not-started, not-running, running}
+use Rattle.tick.proofs.Laws.{Waking, waking-start, waking-size, waking-due, waking-other, waking-done, waking-current, waking-charge, not-started, not-running, running}
 use Rattle.base.proofs.Loops.{unmapped}
 use borrow.Author.Needs.{needs}
 use native.Mathlib.Omega.{arith}
@@ -27,17 +28,17 @@ mul-t c = search needs
 element-copy-out-t : tie.Need-element-copy-out-t Inv-loop μ-loop
 element-copy-out-t c = omega (arith, waking-size (c .before .loop .inv))
 
-woken-requires : tie.Need-woken-requires Inv-loop μ-loop
-woken-requires c κs = search needs
+is-due-requires : tie.Need-is-due-requires Inv-loop μ-loop
+is-due-requires c κs = search needs
+
+with-state-requires : tie.Need-with-state-requires Inv-loop μ-loop
+with-state-requires c κs = search needs
 
 mul-next : tie.Need-mul-next Inv-loop μ-loop
 mul-next c = search needs
 
 element-set-from-next : tie.Need-element-set-from-next Inv-loop μ-loop
-element-set-from-next c = omega (arith, waking-size (c .before .before .before .loop .inv))
-
-is-due-requires : tie.Need-is-due-requires Inv-loop μ-loop
-is-due-requires c κs = search needs
+element-set-from-next c = omega (arith, waking-size (c .before .before .before .before .before .loop .inv))
 
 add-i : tie.Need-add-i Inv-loop μ-loop
 add-i c = search needs
@@ -46,13 +47,17 @@ loop-less : tie.Need-loop-less Inv-loop μ-loop
 loop-less c = search needs
 
 loop-again : tie.Need-loop-again Inv-loop μ-loop
-loop-again c = waking-more _ _ (c .before .before .before .before .loop .inv) (c .before .before .before .loop-test .taken) (c .before .woken .ensures) (c .is-due .ensures)
+loop-again c =
+    ⊎-elim
+    (λ w. rw (w .2, w .3, w .1 .ensures) (waking-due (c .before .before .before .before .loop .inv) (c .before .before .before .loop-test .taken) (sym (c .before .is-due .ensures) ∙ w .0 .taken)))
+    (λ w. rw (w .1, w .2) (waking-other (c .before .before .before .before .loop .inv) (c .before .before .before .loop-test .taken) (sym (c .before .is-due .ensures) ∙ w .0 .left)))
+    (c .if1 .came)
 
 accepted-requires : tie.Need-accepted-requires Inv-loop μ-loop
 accepted-requires c κs = search needs
 
 returns : tie.Need-returns Inv-loop μ-loop
-returns c = let d = waking-done (c .before .before .before .loop .inv) (c .before .before .loop-test .left) in c .accepted .ensures ∙ not-started _ _ _ (d .0) (d .1) (not-true _ (c .before .if1 .taken))
+returns c = let d = waking-done (c .before .before .before .loop .inv) (c .before .before .loop-test .left) in c .accepted .ensures ∙ not-started _ _ _ (d .0) (d .1) (not-true _ (c .before .if2 .taken))
 
 mul-k : tie.Need-mul-k Inv-loop μ-loop
 mul-k c = omega (arith, waking-current (c .before .before .loop .inv), c .before .before .before .pre .0)
@@ -82,7 +87,7 @@ accepted-requires-2 : tie.Need-accepted-requires-2 Inv-loop μ-loop
 accepted-requires-2 c κs = search needs
 
 returns-2 : tie.Need-returns-2 Inv-loop μ-loop
-returns-2 c = let d = waking-done (c .before .before .before .before .before .before .before .loop .inv) (c .before .before .before .before .before .before .loop-test .left) in c .accepted2 .ensures ∙ not-running _ _ _ (d .0) (d .1) (not-false _ (c .before .before .before .before .before .if1 .left)) (sym (c .before .before .is-running .ensures) ∙ not-true _ (c .before .if2 .taken))
+returns-2 c = let d = waking-done (c .before .before .before .before .before .before .before .loop .inv) (c .before .before .before .before .before .before .loop-test .left) in c .accepted2 .ensures ∙ not-running _ _ _ (d .0) (d .1) (not-false _ (c .before .before .before .before .before .if2 .left)) (sym (c .before .before .is-running .ensures) ∙ not-true _ (c .before .if3 .taken))
 
 one-less-requires : tie.Need-one-less-requires Inv-loop μ-loop
 one-less-requires c κs = search needs
@@ -100,7 +105,7 @@ accepted-requires-3 : tie.Need-accepted-requires-3 Inv-loop μ-loop
 accepted-requires-3 c κs = search needs
 
 returns-3 : tie.Need-returns-3 Inv-loop μ-loop
-returns-3 c = let d = waking-done (c .before .before .before .before .before .before .before .before .before .loop .inv) (c .before .before .before .before .before .before .before .before .loop-test .left) in rw (c .accepted3 .ensures, c .before .before .one-less .ensures, c .before .spent .ensures) (running _ _ _ (d .0) (d .1) (not-false _ (c .before .before .before .before .before .before .before .if1 .left)) (sym (c .before .before .before .before .is-running .ensures) ∙ not-false _ (c .before .before .before .if2 .left)))
+returns-3 c = let d = waking-done (c .before .before .before .before .before .before .before .before .before .loop .inv) (c .before .before .before .before .before .before .before .before .loop-test .left) in rw (c .accepted3 .ensures, c .before .before .one-less .ensures, c .before .spent .ensures) (running _ _ _ (d .0) (d .1) (not-false _ (c .before .before .before .before .before .before .before .if2 .left)) (sym (c .before .before .before .before .is-running .ensures) ∙ not-false _ (c .before .before .before .if3 .left)))
 
 pub ticked-spec : {M : Type 1} → statement M
 ticked-spec =
@@ -112,10 +117,10 @@ ticked-spec =
     loop-holds
     mul-t
     element-copy-out-t
-    woken-requires
+    is-due-requires
+    with-state-requires
     mul-next
     element-set-from-next
-    is-due-requires
     add-i
     loop-less
     loop-again

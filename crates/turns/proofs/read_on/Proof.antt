@@ -8,9 +8,6 @@ use borrow.Author.Needs.{needs}
 use Rattle.turns.proofs.read_on.Statement.{statement}
 use Rattle.turns.proofs.read_on.Tie as tie
 
-large-buffer-requires : tie.Need-large-buffer-requires
-large-buffer-requires c κs = search needs
-
 buffer-requires : tie.Need-buffer-requires
 buffer-requires c κs = search needs
 
@@ -20,23 +17,23 @@ slice-aggregate-read c = search needs
 read-requires : tie.Need-read-requires
 read-requires c κs = search needs
 
-slice-aggregate-finish : tie.Need-slice-aggregate-finish
-slice-aggregate-finish c = search needs
-
 finish-requires : tie.Need-finish-requires
-finish-requires c κs = omega (arith, no-table false refl, c .before .before .before .before .before .before .before .large-buffer .ensures)
+finish-requires c κs = omega (arith, no-table false refl, c .before .before .before .before .before .before .before .before .before .pre)
 
-array-share-prefix-out : tie.Need-array-share-prefix-out
-array-share-prefix-out c = search needs
+slice-reshare-prefix-write-all : tie.Need-slice-reshare-prefix-write-all
+slice-reshare-prefix-write-all c = search needs
 
 slice-aggregate-write-all : tie.Need-slice-aggregate-write-all
-slice-aggregate-write-all c = sym (length-take-le _ _ (c .before .before .before .before .before .finish .ensures .1))
+slice-aggregate-write-all c = sym (length-take-le _ _ (c .before .before .before .before .before .before .finish .ensures .1))
 
 write-all-requires : tie.Need-write-all-requires
 write-all-requires c κs = search needs
 
 same-length : tie.Need-same-length
 same-length c = search needs
+
+same-length-2 : tie.Need-same-length-2
+same-length-2 c = search needs
 
 returns : tie.Need-returns
 returns c = search needs
@@ -53,23 +50,23 @@ array-share-prefix-input c = search needs
 slice-aggregate-play : tie.Need-slice-aggregate-play
 slice-aggregate-play c = search needs
 
-slice-aggregate-play-2 : tie.Need-slice-aggregate-play-2
-slice-aggregate-play-2 c = search needs
-
 play-requires : tie.Need-play-requires
-play-requires c κs = rw (no-table false refl) (omega (arith, c .before .before .before .before .before .before .before .before .before .before .large-buffer .ensures, c .before .before .before .count .ensures .0, c .before .before .before .before .before .before .before .before .before .buffer .ensures, c .before .before .before .before .before .before .before .read .kept))
+play-requires c κs = rw (no-table false refl) (omega (arith, c .before .before .before .before .before .before .before .before .before .before .before .before .pre, c .before .before .before .count .ensures .0, c .before .before .before .before .before .before .before .before .before .buffer .ensures, c .before .before .before .before .before .before .before .read .kept))
 
-array-share-prefix-out-2 : tie.Need-array-share-prefix-out-2
-array-share-prefix-out-2 c = search needs
+slice-reshare-prefix-write-all-2 : tie.Need-slice-reshare-prefix-write-all-2
+slice-reshare-prefix-write-all-2 c = search needs
 
 slice-aggregate-write-all-2 : tie.Need-slice-aggregate-write-all-2
-slice-aggregate-write-all-2 c = sym (length-take-le _ _ (c .before .before .before .before .before .play .ensures .1))
+slice-aggregate-write-all-2 c = sym (length-take-le _ _ (c .before .before .before .before .before .before .play .ensures .1))
 
 write-all-requires-2 : tie.Need-write-all-requires-2
 write-all-requires-2 c κs = search needs
 
-same-length-2 : tie.Need-same-length-2
-same-length-2 c = search needs
+same-length-3 : tie.Need-same-length-3
+same-length-3 c = search needs
+
+same-length-4 : tie.Need-same-length-4
+same-length-4 c = search needs
 
 returns-2 : tie.Need-returns-2
 returns-2 c = search needs
@@ -78,25 +75,24 @@ pub read-on-spec : {M : Type 1} → statement M
 read-on-spec =
     tie.close
     (tie.spec
-    large-buffer-requires
     buffer-requires
     slice-aggregate-read
     read-requires
-    slice-aggregate-finish
     finish-requires
-    array-share-prefix-out
+    slice-reshare-prefix-write-all
     slice-aggregate-write-all
     write-all-requires
     same-length
+    same-length-2
     returns
     slice-aggregate-count
     count-requires
     array-share-prefix-input
     slice-aggregate-play
-    slice-aggregate-play-2
     play-requires
-    array-share-prefix-out-2
+    slice-reshare-prefix-write-all-2
     slice-aggregate-write-all-2
     write-all-requires-2
-    same-length-2
+    same-length-3
+    same-length-4
     returns-2)

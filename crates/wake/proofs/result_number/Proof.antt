@@ -3,9 +3,6 @@ use borrow.Author.Needs.{needs}
 use Rattle.wake.proofs.result_number.Statement.{statement}
 use Rattle.wake.proofs.result_number.Tie as tie
 
-is-whole-requires : tie.Need-is-whole-requires
-is-whole-requires c κs = search needs
-
 slot-of-requires : tie.Need-slot-of-requires
 slot-of-requires c κs = search needs
 
@@ -16,9 +13,9 @@ refuse-if-requires-2 : tie.Need-refuse-if-requires-2
 refuse-if-requires-2 c κs = search needs
 
 returns : tie.Need-returns
-returns c = rw (c .refuse-if2 .ensures, c .before .refuse-if .ensures, c .before .before .slot-of .ensures, c .before .before .before .is-whole .ensures)
+returns c = rw (c .refuse-if2 .ensures, c .before .refuse-if .ensures, c .before .before .slot-of .ensures, c .before .before .before .pre)
 
 pub result-number-spec : {M : Type 1} → statement M
 result-number-spec =
     tie.close
-    (tie.spec is-whole-requires slot-of-requires refuse-if-requires refuse-if-requires-2 returns)
+    (tie.spec slot-of-requires refuse-if-requires refuse-if-requires-2 returns)

@@ -7,6 +7,9 @@ use borrow.Author.Needs.{needs}
 use Rattle.wake.proofs.set_syscall_result.Statement.{statement}
 use Rattle.wake.proofs.set_syscall_result.Tie as tie
 
+is-whole-requires : tie.Need-is-whole-requires
+is-whole-requires c κs = search needs
+
 result-number-requires : tie.Need-result-number-requires
 result-number-requires c κs = search needs
 
@@ -25,12 +28,13 @@ accepted-requires c κs = search needs
 
 returns-2 : tie.Need-returns-2
 unfolding number value effect
-returns-2 c = step-accepted _ (Calls.result _ _) _ _ (c .before .before .before .result-number .ensures) (c .before .before .if1 .left) (rw (c .accepted .ensures, c .before .with-result .ensures, toZ-ofZ (c .before .before .before .before .fits .value)))
+returns-2 c = step-accepted _ (Calls.result _ _) _ _ (c .before .before .before .result-number .ensures) (c .before .before .if1 .left) (rw (c .accepted .ensures, c .before .with-result .ensures, toZ-ofZ (c .before .before .before .before .before .fits .value)))
 
 pub set-syscall-result-spec : {M : Type 1} → statement M
 set-syscall-result-spec =
     tie.close
     (tie.spec
+    is-whole-requires
     result-number-requires
     refused-requires
     returns

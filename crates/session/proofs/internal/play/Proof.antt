@@ -1,36 +1,41 @@
 -- `play` meets its contract: after each turn of the loop, what the bytes so far make of session, arena and output.
-use Rattle.session.proofs.Playing.{of, nothing-played, played-more, played-line, played-all, room-left, room-used, room-enough, written-as}
+use Rattle.session.proofs.Playing.{of, line, nothing-played, played-more, played-line, played-all, same-line, short-line, long-line, room-left, room-used, room-enough, written-as}
 use Rattle.session.specs.Session.{Plays, replyRoom}
-use lib.ListN.{length, take}
+use Rattle.kernel.specs.Kernel.{whole}
+use lib.ListN.{length, take, length-set}
 use borrow.Author.Needs.{needs}
 use native.Mathlib.Omega.{arith}
 use mathlib.Core.Logic.{⊎-elim}
+use mathlib.Core.Bool.{true, _||_, not}
 use mathlib.Core.Path.{_≡_, refl, ap, _∙_}
 use Prim.Native.Nat.{_-_, _*_, _≤_}
+use Rattle.base.proofs.Loops.{unmapped}
 use Rattle.session.proofs.internal.play.Statement.{statement}
 use Rattle.session.proofs.internal.play.Tie as tie
 
 abbrev Inv-loop : tie.InvT-loop
-Inv-loop tables input arena₀ out₀ kernel₀ line₀ n₀ i₀ i-end arena out kernel line n i =
-    (i ≤ length input) × (i-end ≡ length input) × (n ≤ replyRoom tables * i) × (length out ≡ length out₀) × (length arena ≡ length arena₀) × Plays tables (of kernel₀ line₀ 0 .session) arena₀ (take i input) arena out₀ out (of kernel line n)
+Inv-loop tables input arena₀ out₀ kernel₀ known₀ bytes₀ len₀ n₀ i₀ i-end arena out kernel known bytes len n i =
+    (i ≤ length input) × (i-end ≡ length input) × (n ≤ replyRoom tables * i) × (length out ≡ length out₀) × (length arena ≡ length arena₀) × Plays tables (of kernel₀ (line bytes₀ len₀) 0 .session) arena₀ (take i input) arena out₀ out (of kernel (line bytes len) n) × ((not known || whole kernel) ≡ true) × (length bytes ≡ 12)
 
 abbrev μ-loop : tie.MeasureT-loop
-μ-loop tables input arena₀ out₀ kernel₀ line₀ n₀ i₀ i-end arena out kernel line n i = length input - i
+μ-loop tables input arena₀ out₀ kernel₀ known₀ bytes₀ len₀ n₀ i₀ i-end arena out kernel known bytes len n i =
+    length input - i
 
 loop-holds : tie.Need-loop-holds Inv-loop μ-loop
-loop-holds c = (omega arith, refl, omega arith, refl, refl, nothing-played _ _ _ _)
+loop-holds c = (omega arith, refl, omega arith, refl, refl, nothing-played _ _ _ _, refl, search unmapped)
 
 shared-slice-read-b : tie.Need-shared-slice-read-b Inv-loop μ-loop
 shared-slice-read-b c = omega (arith, c .before .before .loop .inv .1)
 
 end-line-requires : tie.Need-end-line-requires Inv-loop μ-loop
-end-line-requires c κs = omega (arith, room-left (replyRoom (c .before .before .before .before .before .before .before .before .before .before .before .args .tables)) (length (c .before .before .before .before .before .before .before .before .before .before .before .args .input .now)) (length (c .before .before .before .before .before .before .before .before .before .before .before .args .out .now)) (c .before .before .before .before .before .loop .i) (c .before .before .before .before .before .loop .n) (c .before .before .before .before .before .before .before .before .before .before .before .pre) (omega (arith, c .before .before .before .before .before .loop .inv .1)) (c .before .before .before .before .before .loop .inv .2), c .before .before .before .before .before .loop .inv .3)
+end-line-requires c κs =
+    (omega (arith, room-left (replyRoom (c .before .before .before .before .before .before .before .before .before .before .before .before .before .before .args .tables)) (length (c .before .before .before .before .before .before .before .before .before .before .before .before .before .before .args .input .now)) (length (c .before .before .before .before .before .before .before .before .before .before .before .before .before .before .args .out .now)) (c .before .before .before .before .before .before .before .loop .i) (c .before .before .before .before .before .before .before .loop .n) (c .before .before .before .before .before .before .before .before .before .before .before .before .before .before .pre) (omega (arith, c .before .before .before .before .before .before .before .loop .inv .1)) (c .before .before .before .before .before .before .before .loop .inv .2), c .before .before .before .before .before .before .before .loop .inv .3), c .before .before .before .before .before .before .before .loop .inv .6)
 
-empty-requires : tie.Need-empty-requires Inv-loop μ-loop
-empty-requires c κs = search needs
+array-write-bytes : tie.Need-array-write-bytes Inv-loop μ-loop
+array-write-bytes c = omega (arith, c .if2 .taken, c .before .before .before .before .loop .inv .7)
 
-lengthened-requires : tie.Need-lengthened-requires Inv-loop μ-loop
-lengthened-requires c κs = search needs
+add-len : tie.Need-add-len Inv-loop μ-loop
+add-len c = search needs
 
 add-i : tie.Need-add-i Inv-loop μ-loop
 add-i c = omega (arith, c .before .before .before .loop .inv .1)
@@ -39,9 +44,12 @@ loop-less : tie.Need-loop-less Inv-loop μ-loop
 loop-less c = omega (arith, c .before .before .before .loop .inv .1)
 
 loop-again : tie.Need-loop-again Inv-loop μ-loop
-loop-again c = ⊎-elim
-    (λ w. (omega (arith, c .before .before .before .loop .inv .1), c .before .before .before .loop .inv .1, room-used (replyRoom (c .before .before .before .before .before .before .before .before .before .args .tables)) (c .before .before .before .loop .i) (c .before .before .before .loop .n) _ (c .before .before .before .loop .inv .2) (omega (arith, w .14, w .3 .ensures .1)), ap length (w .11) ∙ w .3 .kept .1 .1 .1 .1 .0 ∙ c .before .before .before .loop .inv .3, ap length (w .10) ∙ w .3 .kept .1 .1 .1 .0 ∙ c .before .before .before .loop .inv .4, played-line (c .before .before .before .before .before .before .before .before .before .args .input .now) (c .before .before .before .loop .i) (omega (arith, c .before .before .before .loop .inv .1)) (w .0 .taken) (c .before .before .before .loop .inv .5) (w .12 ∙ w .3 .ensures .0 .0) (w .13 ∙ w .9 .ensures) (w .10 ∙ w .3 .ensures .0 .1) (written-as (w .11) (w .14) (w .3 .ensures .0 .2))))
-    (λ w. (omega (arith, c .before .before .before .loop .inv .1), c .before .before .before .loop .inv .1, room-used (replyRoom (c .before .before .before .before .before .before .before .before .before .args .tables)) (c .before .before .before .loop .i) (c .before .before .before .loop .n) _ (c .before .before .before .loop .inv .2) (omega (arith, w .6)), ap length (w .3) ∙ c .before .before .before .loop .inv .3, ap length (w .2) ∙ c .before .before .before .loop .inv .4, played-more (c .before .before .before .before .before .before .before .before .before .args .input .now) (c .before .before .before .loop .i) (omega (arith, c .before .before .before .loop .inv .1)) (w .0 .left) (c .before .before .before .loop .inv .5) (w .4) (w .5 ∙ w .1 .ensures) (w .2) (w .3) (w .6)))
+loop-again c =
+    ⊎-elim
+    (λ w. (omega (arith, c .before .before .before .loop .inv .1), c .before .before .before .loop .inv .1, room-used (replyRoom (c .before .before .before .before .before .before .before .before .before .before .args .tables)) (c .before .before .before .loop .i) (c .before .before .before .loop .n) _ (c .before .before .before .loop .inv .2) (omega (arith, w .16, w .5 .ensures .1 .0)), ap length (w .11) ∙ w .5 .kept .1 .1 .1 .1 .1 .0 ∙ c .before .before .before .loop .inv .3, ap length (w .10) ∙ w .5 .kept .1 .1 .1 .1 .0 ∙ c .before .before .before .loop .inv .4, played-line (c .before .before .before .before .before .before .before .before .before .before .args .input .now) (c .before .before .before .loop .i) (omega (arith, c .before .before .before .loop .inv .1)) (w .0 .taken) (c .before .before .before .loop .inv .5) (w .12 ∙ w .5 .ensures .0 .0) (same-line (w .14) (w .15)) (w .10 ∙ w .5 .ensures .0 .1) (written-as (w .11) (w .16) (w .5 .ensures .0 .2)), rw (w .13, w .12) (w .5 .ensures .1 .1), ap length (w .14)))
+    (⊎-elim
+    (λ w. (omega (arith, c .before .before .before .loop .inv .1), c .before .before .before .loop .inv .1, room-used (replyRoom (c .before .before .before .before .before .before .before .before .before .before .args .tables)) (c .before .before .before .loop .i) (c .before .before .before .loop .n) _ (c .before .before .before .loop .inv .2) (omega (arith, w .8)), ap length (w .3) ∙ c .before .before .before .loop .inv .3, ap length (w .2) ∙ c .before .before .before .loop .inv .4, played-more (c .before .before .before .before .before .before .before .before .before .before .args .input .now) (c .before .before .before .loop .i) (omega (arith, c .before .before .before .loop .inv .1)) (w .0 .left) (c .before .before .before .loop .inv .5) (w .4) (same-line (w .6) (w .7) ∙ short-line (line (c .before .before .before .loop .bytes) (c .before .before .before .loop .len)) _ (w .1 .taken)) (w .2) (w .3) (w .8), rw (w .5, w .4) (c .before .before .before .loop .inv .6), ap length (w .6) ∙ length-set (c .before .before .before .loop .bytes) (c .before .before .before .loop .len) _ ∙ c .before .before .before .loop .inv .7))
+    (λ w. (omega (arith, c .before .before .before .loop .inv .1), c .before .before .before .loop .inv .1, room-used (replyRoom (c .before .before .before .before .before .before .before .before .before .before .args .tables)) (c .before .before .before .loop .i) (c .before .before .before .loop .n) _ (c .before .before .before .loop .inv .2) (omega (arith, w .8)), ap length (w .3) ∙ c .before .before .before .loop .inv .3, ap length (w .2) ∙ c .before .before .before .loop .inv .4, played-more (c .before .before .before .before .before .before .before .before .before .before .args .input .now) (c .before .before .before .loop .i) (omega (arith, c .before .before .before .loop .inv .1)) (w .0 .left) (c .before .before .before .loop .inv .5) (w .4) (same-line (w .6) (w .7) ∙ long-line (line (c .before .before .before .loop .bytes) (c .before .before .before .loop .len)) _ (w .1 .left)) (w .2) (w .3) (w .8), rw (w .5, w .4) (c .before .before .before .loop .inv .6), ap length (w .6) ∙ c .before .before .before .loop .inv .7)))
     (c .if1 .came)
 
 same-length : tie.Need-same-length Inv-loop μ-loop
@@ -51,7 +59,7 @@ same-length-2 : tie.Need-same-length-2 Inv-loop μ-loop
 same-length-2 c = c .before .loop .inv .3
 
 returns : tie.Need-returns Inv-loop μ-loop
-returns c = (played-all (c .before .before .before .before .before .before .before .args .input .now) (c .before .loop .i) (omega (arith, c .before .loop .inv .1)) (c .before .loop .inv .5), omega (arith, room-enough (replyRoom (c .before .before .before .before .before .before .before .args .tables)) (length (c .before .before .before .before .before .before .before .args .input .now)) (length (c .before .before .before .before .before .before .before .args .out .now)) (c .before .loop .i) (c .before .loop .n) (c .before .before .before .before .before .before .before .pre) (c .before .loop .inv .0) (c .before .loop .inv .2), c .before .loop .inv .3))
+returns c = (played-all (c .before .before .before .before .before .before .before .before .args .input .now) (c .before .loop .i) (omega (arith, c .before .loop .inv .1)) (c .before .loop .inv .5), omega (arith, room-enough (replyRoom (c .before .before .before .before .before .before .before .before .args .tables)) (length (c .before .before .before .before .before .before .before .before .args .input .now)) (length (c .before .before .before .before .before .before .before .before .args .out .now)) (c .before .loop .i) (c .before .loop .n) (c .before .before .before .before .before .before .before .before .pre) (c .before .loop .inv .0) (c .before .loop .inv .2), c .before .loop .inv .3))
 
 pub play-spec : {M : Type 1} → statement M
 play-spec =
@@ -62,8 +70,8 @@ play-spec =
     loop-holds
     shared-slice-read-b
     end-line-requires
-    empty-requires
-    lengthened-requires
+    array-write-bytes
+    add-len
     add-i
     loop-less
     loop-again

@@ -7,7 +7,7 @@ use Rattle.kernel.specs.Kernel.{charge}
 use Rattle.text.specs.Text.{decimal}
 use Rattle.text.proofs.Writing.{written-length}
 use Rattle.table_line.specs.TableLine.{chargesText}
-use Rattle.table_line.proofs.Joined.{Joining, joining-start, joining-each, joining-done}
+use Rattle.objects_line.proofs.Joined.{Joining, joining-start, joining-each, joining-done}
 use Rattle.table_line.proofs.internal.put_charges.Statement.{statement}
 use Rattle.table_line.proofs.internal.put_charges.Tie as tie
 

@@ -3,7 +3,7 @@ use native.Mathlib.Omega.{arith}
 use borrow.Author.Needs.{needs}
 use Rattle.text.proofs.Writing.{written-then}
 use Rattle.table_line.specs.TableLine.{schedulerText}
-use Rattle.table_line.proofs.Parts.{then-three}
+use Rattle.objects_line.proofs.Parts.{then-three}
 use Rattle.table_line.proofs.internal.put_scheduler.Statement.{statement}
 use Rattle.table_line.proofs.internal.put_scheduler.Tie as tie
 

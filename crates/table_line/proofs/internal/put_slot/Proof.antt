@@ -5,8 +5,9 @@ use mir.Syntax.{w32}
 use mir.Facts.{toZ-ofZ}
 use borrow.Author.Needs.{needs}
 use Rattle.text.proofs.Writing.{written-then, written-length}
-use Rattle.table_line.specs.TableLine.{slotText, comma}
-use Rattle.table_line.proofs.Parts.{then-two, then-three}
+use Rattle.objects_line.specs.ObjectsLine.{comma}
+use Rattle.table_line.specs.TableLine.{slotText}
+use Rattle.objects_line.proofs.Parts.{then-two, then-three}
 use Rattle.table_line.proofs.internal.put_slot.Statement.{statement}
 use Rattle.table_line.proofs.internal.put_slot.Tie as tie
 

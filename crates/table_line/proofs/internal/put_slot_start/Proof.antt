@@ -3,7 +3,7 @@ use mathlib.Core.Path.{_∙_}
 use native.Mathlib.Omega.{arith}
 use borrow.Author.Needs.{needs}
 use Rattle.text.proofs.Writing.{written-then, written-length}
-use Rattle.table_line.proofs.Parts.{then-three}
+use Rattle.objects_line.proofs.Parts.{then-three}
 use Rattle.table_line.proofs.internal.put_slot_start.Statement.{statement}
 use Rattle.table_line.proofs.internal.put_slot_start.Tie as tie
 

@@ -8,7 +8,7 @@ use Rattle.base.proofs.Loops.{Upto, any-start, upto-any}
 use Rattle.kernel.specs.Kernel.{slot}
 use Rattle.text.proofs.Writing.{written-length}
 use Rattle.table_line.specs.TableLine.{slotText, slotsText}
-use Rattle.table_line.proofs.Joined.{Joining, joining-start, joining-more, joining-done}
+use Rattle.objects_line.proofs.Joined.{Joining, joining-start, joining-more, joining-done}
 use Rattle.table_line.proofs.internal.put_slots.Statement.{statement}
 use Rattle.table_line.proofs.internal.put_slots.Tie as tie
 

@@ -2,8 +2,9 @@
 use native.Mathlib.Omega.{arith}
 use borrow.Author.Needs.{needs}
 use Rattle.text.proofs.Writing.{written-then}
-use Rattle.table_line.specs.TableLine.{tableLine, bar}
-use Rattle.table_line.proofs.Parts.{then-five}
+use Rattle.objects_line.specs.ObjectsLine.{bar}
+use Rattle.table_line.specs.TableLine.{tableLine}
+use Rattle.objects_line.proofs.Parts.{then-five}
 use Rattle.table_line.proofs.internal.put_table.Statement.{statement}
 use Rattle.table_line.proofs.internal.put_table.Tie as tie
 

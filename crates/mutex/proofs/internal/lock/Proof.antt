@@ -1,0 +1,52 @@
+-- `lock` meets its contract: refused, and accepted.
+use mathlib.Core.Path.{sym, _∙_}
+use Rattle.kernel.specs.Calls.{lock, value}
+use Rattle.kernel.proofs.Step.{step-refused, step-accepted}
+use Rattle.kernel.proofs.Accepted.{accepted-is}
+use Rattle.mutex.proofs.Laws.{current-owned, lock-object}
+use borrow.Author.Needs.{needs}
+use Rattle.mutex.proofs.internal.lock.Statement.{statement}
+use Rattle.mutex.proofs.internal.lock.Tie as tie
+
+is-whole-requires : tie.Need-is-whole-requires
+is-whole-requires c κs = search needs
+
+lock-number-requires : tie.Need-lock-number-requires
+lock-number-requires c κs = search needs
+
+refused-requires : tie.Need-refused-requires
+refused-requires c κs = search needs
+
+returns : tie.Need-returns
+returns c = step-refused _ (lock _) _ _ (c .before .before .lock-number .ensures) (c .before .if1 .taken) (c .refused .ensures)
+
+lock-got-requires : tie.Need-lock-got-requires
+lock-got-requires c κs =
+    let e = sym (c .before .lock-number .ensures) ∙ c .if1 .left in
+    (accepted-is _ (lock _) e .current-slot, lock-object _ _ e)
+
+locked-requires : tie.Need-locked-requires
+locked-requires c κs =
+    let e = sym (c .before .before .lock-number .ensures) ∙ c .before .if1 .left in
+    let w = accepted-is _ (lock _) e in
+    (w .current-slot, lock-object _ _ e, current-owned _ w)
+
+accepted-requires : tie.Need-accepted-requires
+accepted-requires c κs = search needs
+
+returns-2 : tie.Need-returns-2
+unfolding value
+returns-2 c = step-accepted _ (lock _) _ _ (c .before .before .before .before .lock-number .ensures) (c .before .before .before .if1 .left) (rw (c .accepted .ensures, c .before .locked .ensures, c .before .before .lock-got .ensures))
+
+pub lock-spec : {M : Type 1} → statement M
+lock-spec =
+    tie.close
+    (tie.spec
+    is-whole-requires
+    lock-number-requires
+    refused-requires
+    returns
+    lock-got-requires
+    locked-requires
+    accepted-requires
+    returns-2)

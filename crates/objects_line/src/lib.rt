@@ -1,0 +1,2 @@
+// The objects of a kernel as `tables` prints them.
+pub mod internal;

@@ -1,0 +1,43 @@
+-- `reap_task` meets its contract: refused by a number, and accepted.
+use mathlib.Core.Path.{sym, _∙_}
+use Rattle.kernel.specs.Calls.{reap, value, effect}
+use Rattle.kernel.proofs.Accepted.{accepted-whole, reap-accepted}
+use Rattle.kernel.proofs.Step.{step-refused, step-accepted}
+use Rattle.reap.proofs.Laws.{has-task}
+use borrow.Author.Needs.{needs}
+use Rattle.reap.proofs.internal.reap_task.Statement.{statement}
+use Rattle.reap.proofs.internal.reap_task.Tie as tie
+
+is-whole-requires : tie.Need-is-whole-requires
+is-whole-requires c κs = search needs
+
+reap-number-requires : tie.Need-reap-number-requires
+reap-number-requires c κs = search needs
+
+refused-requires : tie.Need-refused-requires
+refused-requires c κs = search needs
+
+returns : tie.Need-returns
+returns c = step-refused _ (reap _) _ _ (c .before .before .reap-number .ensures) (c .before .if1 .taken) (c .refused .ensures)
+
+slot-of-requires : tie.Need-slot-of-requires
+slot-of-requires c κs = search needs
+
+reaped-requires : tie.Need-reaped-requires
+reaped-requires c κs = let e = sym (c .before .before .reap-number .ensures) ∙ c .before .if1 .left in (rw (c .slot-of .ensures) (reap-accepted _ _ e .found), has-task _ (accepted-whole _ (reap _) e))
+
+returns-2 : tie.Need-returns-2
+unfolding value effect
+returns-2 c = step-accepted _ (reap _) _ _ (c .before .before .before .reap-number .ensures) (c .before .before .if1 .left) (rw (c .reaped .ensures, c .before .slot-of .ensures))
+
+pub reap-task-spec : {M : Type 1} → statement M
+reap-task-spec =
+    tie.close
+    (tie.spec
+    is-whole-requires
+    reap-number-requires
+    refused-requires
+    returns
+    slot-of-requires
+    reaped-requires
+    returns-2)

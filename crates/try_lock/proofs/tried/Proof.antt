@@ -1,0 +1,28 @@
+-- `tried` meets its contract: locked, and unlocked.
+use mathlib.Core.Path.{refl}
+use Rattle.base.proofs.Choices.{taken, left}
+use Rattle.kernel.specs.Mutex.{tryLock}
+use Rattle.kernel.specs.Calls.{effect}
+use borrow.Author.Needs.{needs}
+use Rattle.try_lock.proofs.tried.Statement.{statement}
+use Rattle.try_lock.proofs.tried.Tie as tie
+
+mul-x : tie.Need-mul-x
+mul-x c = search needs
+
+element-copy-out-x : tie.Need-element-copy-out-x
+element-copy-out-x c = search needs
+
+returns : tie.Need-returns
+unfolding effect tryLock
+returns c = taken _ _ _ _ (search needs) refl
+
+acquired-requires : tie.Need-acquired-requires
+acquired-requires c κs = search needs
+
+returns-2 : tie.Need-returns-2
+unfolding effect tryLock
+returns-2 c = left _ _ _ _ (search needs) (c .acquired .ensures)
+
+pub tried-spec : {M : Type 1} → statement M
+tried-spec = tie.close (tie.spec mul-x element-copy-out-x returns acquired-requires returns-2)

@@ -1,0 +1,55 @@
+-- `unlock` meets its contract: refused, and accepted.
+use mathlib.Core.Path.{sym, _∙_}
+use native.Mathlib.Omega.{arith}
+use Rattle.kernel.specs.Calls.{unlock, value}
+use Rattle.kernel.proofs.Step.{step-refused, step-accepted}
+use Rattle.kernel.proofs.Accepted.{accepted-is}
+use Rattle.unlock.proofs.Laws.{unlock-object}
+use borrow.Author.Needs.{needs}
+use Rattle.unlock.proofs.internal.unlock.Statement.{statement}
+use Rattle.unlock.proofs.internal.unlock.Tie as tie
+
+is-whole-requires : tie.Need-is-whole-requires
+is-whole-requires c κs = search needs
+
+unlock-number-requires : tie.Need-unlock-number-requires
+unlock-number-requires c κs = search needs
+
+refused-requires : tie.Need-refused-requires
+refused-requires c κs = search needs
+
+returns : tie.Need-returns
+returns c = step-refused _ (unlock _) _ _ (c .before .before .unlock-number .ensures) (c .before .if1 .taken) (c .refused .ensures)
+
+mul-x : tie.Need-mul-x
+mul-x c = omega (arith, unlock-object _ _ (sym (c .before .unlock-number .ensures) ∙ c .if1 .left))
+
+element-copy-out-x : tie.Need-element-copy-out-x
+element-copy-out-x c = omega (arith, unlock-object _ _ (sym (c .before .unlock-number .ensures) ∙ c .if1 .left))
+
+unlocked-requires : tie.Need-unlocked-requires
+unlocked-requires c κs =
+    let e = sym (c .before .before .before .unlock-number .ensures) ∙ c .before .before .if1 .left in
+    let w = accepted-is _ (unlock _) e in
+    (w .current-slot, unlock-object _ _ e, w .owned)
+
+accepted-requires : tie.Need-accepted-requires
+accepted-requires c κs = search needs
+
+returns-2 : tie.Need-returns-2
+unfolding value
+returns-2 c = step-accepted _ (unlock _) _ _ (c .before .before .before .before .before .unlock-number .ensures) (c .before .before .before .before .if1 .left) (rw (c .accepted .ensures, c .before .unlocked .ensures))
+
+pub unlock-spec : {M : Type 1} → statement M
+unlock-spec =
+    tie.close
+    (tie.spec
+    is-whole-requires
+    unlock-number-requires
+    refused-requires
+    returns
+    mul-x
+    element-copy-out-x
+    unlocked-requires
+    accepted-requires
+    returns-2)

@@ -1,0 +1,43 @@
+-- `wait_task` meets its contract: refused by a number, and accepted.
+use mathlib.Core.Path.{sym, _∙_}
+use Rattle.kernel.specs.Calls.{wait, value}
+use Rattle.kernel.proofs.Accepted.{accepted-is}
+use Rattle.kernel.proofs.Step.{step-refused, step-accepted}
+use Rattle.wait.proofs.Laws.{wait-found}
+use borrow.Author.Needs.{needs}
+use Rattle.wait.proofs.internal.wait_task.Statement.{statement}
+use Rattle.wait.proofs.internal.wait_task.Tie as tie
+
+is-whole-requires : tie.Need-is-whole-requires
+is-whole-requires c κs = search needs
+
+wait-number-requires : tie.Need-wait-number-requires
+wait-number-requires c κs = search needs
+
+refused-requires : tie.Need-refused-requires
+refused-requires c κs = search needs
+
+returns : tie.Need-returns
+returns c = step-refused _ (wait _) _ _ (c .before .before .wait-number .ensures) (c .before .if1 .taken) (c .refused .ensures)
+
+waited-requires : tie.Need-waited-requires
+waited-requires c κs = let e = sym (c .before .wait-number .ensures) ∙ c .if1 .left in (accepted-is _ (wait _) e .current-slot, wait-found _ _ e)
+
+accepted-requires : tie.Need-accepted-requires
+accepted-requires c κs = search needs
+
+returns-2 : tie.Need-returns-2
+unfolding value
+returns-2 c = step-accepted _ (wait _) _ _ (c .before .before .before .wait-number .ensures) (c .before .before .if1 .left) (rw (c .accepted .ensures, c .before .waited .ensures))
+
+pub wait-task-spec : {M : Type 1} → statement M
+wait-task-spec =
+    tie.close
+    (tie.spec
+    is-whole-requires
+    wait-number-requires
+    refused-requires
+    returns
+    waited-requires
+    accepted-requires
+    returns-2)
