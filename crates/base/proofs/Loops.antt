@@ -183,6 +183,9 @@ search-done p n i u h =
     let q : n ≡ i = omega arith in
     q ∙ upto-done (lowestBelow p) n i i u h
 
+-- a search's loop, by what its test says at each number
+pub ruleset searching = (search-start, search-more, search-found, search-done)
+
 -- one more to search: what was found stays found, and the last may be it
 pub lowest-next : (p : ℕ → Bool) (n : ℕ) → lowestBelow p n < n → lowestBelow p (n + 1) < n + 1
 unfolding lowestBelow if_then_else_

@@ -1,6 +1,11 @@
 pub mod Pick
 pub mod Whole
 pub mod Step
+pub mod Checks
 pub mod Accepted
 pub mod Tasks
+pub mod Changes
+pub mod MadeOf
 pub mod Stays
+pub mod Owned
+pub mod Reached

@@ -1,5 +1,6 @@
 -- Every public call: what refuses it, what it answers and what it does (01, "Where a call is turned back").
 use Prim.Native.Nat.{ℕ, zero, suc, _+_, _^_, _-_}
+use mathlib.Core.Path.{_≡_}
 use mathlib.Core.Bool.{Bool, false, _&&_, _||_, not}
 use mathlib.Core.List.{List, [], _∷_, _++_}
 use lib.Dec.{eqb, leb, ltb}
@@ -46,11 +47,68 @@ pub data Call : Type 0 where
   signal : (event : ℕ) → Call
   list : (arena : List ℕ) (records : List TaskInfo) → Call
 
--- ---- the number: 0, or which check refuses the call, in 01's order
+-- ---- which sort of call it is: what is said of every call, or of every list, goes by these
 
--- the arena that is lent has the kernel's length
-abbrev pub hasArenaLength : Kernel → List ℕ → Bool
-hasArenaLength k arena = eqb (length arena) (k .«arena_words»)
+pub data Kind : Type 0 where
+  -- add; reap and reap-one; start; switch; tick
+  adding reaping starting switching ticking : Kind
+  -- lock, try-lock and unlock, which alone alter who owns a mutex
+  owning : Kind
+  -- the others
+  plain : Kind
+
+abbrev pub kind : Call → Kind
+kind (add arena p r) = adding
+kind start = starting
+kind tick = ticking
+kind (switch arena sp) = switching
+kind current-id = plain
+kind (status s) = plain
+kind block = plain
+kind (sleep ticks) = plain
+kind (wake a) = plain
+kind exit = plain
+kind (wait a) = plain
+kind (reap a) = reaping
+kind reap-one = reaping
+kind (result a r) = plain
+kind (lock m) = owning
+kind (try-lock m) = owning
+kind (unlock m) = owning
+kind (acquire s) = plain
+kind (try-acquire s) = plain
+kind (release s) = plain
+kind (event-wait e) = plain
+kind (signal e) = plain
+kind (list arena records) = plain
+
+-- ---- the number: 0, or that of the first check that refuses the call, in 01's order
+
+-- a check: the number that it refuses with, and where
+infix 5 _when_
+pub data Check : Type 0 where
+  _when_ : (number : ℕ) (refuses : Bool) → Check
+
+-- the number of the first check that refuses; 0 where none does
+abbrev pub firstOf : List Check → ℕ
+firstOf [] = 0
+firstOf ((n when b) ∷ checks) = if b then n else firstOf checks
+
+-- every kernel call: 1 kernel not whole ..
+abbrev pub notWhole : Kernel → Check
+notWhole k = 1 when not (whole k)
+
+-- .. or the arena lent to add, switch or list of another length
+abbrev pub otherLength : Kernel → List ℕ → Check
+otherLength k arena = 1 when not (eqb (length arena) (k .«arena_words»))
+
+-- object calls: 20 object above 3
+abbrev pub noObject : ℕ → Check
+noObject o = 20 when ltb 3 o
+
+-- status, block, sleep, exit, wait, current id, switch, lock, try lock, unlock, acquire, event wait: 2 not started
+abbrev pub notStarted : Kernel → Check
+notStarted k = 2 when not (k .started)
 
 -- eight queued and current's id not among them
 abbrev pub noRoom : Kernel → WaitQueue → Bool
@@ -61,120 +119,66 @@ abbrev pub otherWaiter : OptionTaskId → TaskId → Bool
 otherWaiter None a = false
 otherWaiter (Some b) a = not (sameId b a)
 
+-- the checks of each call, after the one that every kernel call has
+abbrev pub checks : Kernel → Call → List Check
+checks k (add arena p r) =
+    otherLength k arena
+    ∷ (4 when leb 16 (lowestEmpty k))
+    ∷ (5 when not (regionFits (k .«arena_words») r) || overlapsPresent r k)
+    ∷ (6 when ltb 4294967295 (k .«next_id»))
+    ∷ []
+checks k start = (3 when k .started) ∷ []
+checks k tick = (18 when eqb (k .«tick_count») (2 ^ 64 - 1)) ∷ []
+checks k (switch arena sp) =
+    otherLength k arena
+    ∷ notStarted k
+    ∷ (16 when not (spInRange (currentTask k .stack) sp))
+    ∷ (17 when not (stackGuardOk (currentTask k .stack) arena))
+    ∷ []
+checks k current-id = notStarted k ∷ []
+checks k (status s) = notStarted k ∷ (7 when eqb s 1 || leb 5 s) ∷ []
+checks k block = notStarted k ∷ []
+checks k (sleep ticks) = notStarted k ∷ []
+checks k (wake a) = []
+checks k exit =
+    notStarted k
+    ∷ (10 when eqb (current k) 0)
+    ∷ (11 when ltb 0 (currentTask k .«owned_mutex_count»))
+    ∷ []
+checks k (wait a) =
+    notStarted k
+    ∷ (7 when sameId (currentId k) a)
+    ∷ (8 when not (isPresent k a))
+    ∷ (9 when not (inState Terminated (slot k (slotOf k a))) && otherWaiter (slot k (slotOf k a) .waiter) (currentId k))
+    ∷ []
+checks k (reap a) =
+    (8 when not (isPresent k a))
+    ∷ (9 when eqb (slotOf k a) 0 || eqb (slotOf k a) (current k) || not (inState Terminated (slot k (slotOf k a))))
+    ∷ []
+checks k reap-one = []
+checks k (result a r) = (8 when not (isPresent k a)) ∷ []
+checks k (lock m) =
+    noObject m
+    ∷ notStarted k
+    ∷ (13 when mutex k m .locked && ownsMutex k m && not (isHanded k m))
+    ∷ (12 when mutex k m .locked && not (ownsMutex k m) && noRoom k (mutex k m .waiters))
+    ∷ []
+checks k (try-lock m) = noObject m ∷ notStarted k ∷ []
+checks k (unlock m) =
+    noObject m
+    ∷ notStarted k
+    ∷ (14 when not (ownsMutex k m))
+    ∷ (15 when eqb (slot k (slotOf k (currentId k)) .«owned_mutex_count») 0)
+    ∷ []
+checks k (acquire s) = noObject s ∷ notStarted k ∷ (12 when not (hasPermit s k) && noRoom k (semaphore k s .waiters)) ∷ []
+checks k (try-acquire s) = noObject s ∷ []
+checks k (release s) = noObject s ∷ (19 when eqb (semaphore k s .count) 4294967295) ∷ []
+checks k (event-wait e) = noObject e ∷ notStarted k ∷ (12 when not (event k e .signaled) && noRoom k (event k e .waiters)) ∷ []
+checks k (signal e) = noObject e ∷ []
+checks k (list arena records) = otherLength k arena ∷ (21 when ltb (length records) (k .«task_count»)) ∷ []
+
 unfoldable pub number : Kernel → Call → ℕ
-number k (add arena p r) =
-    if not (whole k && hasArenaLength k arena) then 1
-    else if leb 16 (lowestEmpty k) then 4
-    else if not (regionFits (k .«arena_words») r) || overlapsPresent r k then 5
-    else if ltb 4294967295 (k .«next_id») then 6
-    else 0
-number k start =
-    if not (whole k) then 1
-    else if k .started then 3
-    else 0
-number k tick =
-    if not (whole k) then 1
-    else if eqb (k .«tick_count») (2 ^ 64 - 1) then 18
-    else 0
-number k (switch arena sp) =
-    if not (whole k && hasArenaLength k arena) then 1
-    else if not (k .started) then 2
-    else if not (spInRange (currentTask k .stack) sp) then 16
-    else if not (stackGuardOk (currentTask k .stack) arena) then 17
-    else 0
-number k current-id =
-    if not (whole k) then 1
-    else if not (k .started) then 2
-    else 0
-number k (status s) =
-    if not (whole k) then 1
-    else if not (k .started) then 2
-    else if eqb s 1 || leb 5 s then 7
-    else 0
-number k block =
-    if not (whole k) then 1
-    else if not (k .started) then 2
-    else 0
-number k (sleep ticks) =
-    if not (whole k) then 1
-    else if not (k .started) then 2
-    else 0
-number k (wake a) =
-    if not (whole k) then 1
-    else 0
-number k exit =
-    if not (whole k) then 1
-    else if not (k .started) then 2
-    else if eqb (current k) 0 then 10
-    else if ltb 0 (currentTask k .«owned_mutex_count») then 11
-    else 0
-number k (wait a) =
-    if not (whole k) then 1
-    else if not (k .started) then 2
-    else if sameId (currentId k) a then 7
-    else if not (isPresent k a) then 8
-    else if not (inState Terminated (slot k (slotOf k a))) && otherWaiter (slot k (slotOf k a) .waiter) (currentId k) then 9
-    else 0
-number k (reap a) =
-    if not (whole k) then 1
-    else if not (isPresent k a) then 8
-    else if eqb (slotOf k a) 0 || eqb (slotOf k a) (current k) || not (inState Terminated (slot k (slotOf k a))) then 9
-    else 0
-number k reap-one =
-    if not (whole k) then 1
-    else 0
-number k (result a r) =
-    if not (whole k) then 1
-    else if not (isPresent k a) then 8
-    else 0
-number k (lock m) =
-    if not (whole k) then 1
-    else if ltb 3 m then 20
-    else if not (k .started) then 2
-    else if mutex k m .locked && ownsMutex k m && not (isHanded k m) then 13
-    else if mutex k m .locked && not (ownsMutex k m) && noRoom k (mutex k m .waiters) then 12
-    else 0
-number k (try-lock m) =
-    if not (whole k) then 1
-    else if ltb 3 m then 20
-    else if not (k .started) then 2
-    else 0
-number k (unlock m) =
-    if not (whole k) then 1
-    else if ltb 3 m then 20
-    else if not (k .started) then 2
-    else if not (ownsMutex k m) then 14
-    else if eqb (slot k (slotOf k (currentId k)) .«owned_mutex_count») 0 then 15
-    else 0
-number k (acquire s) =
-    if not (whole k) then 1
-    else if ltb 3 s then 20
-    else if not (k .started) then 2
-    else if not (hasPermit s k) && noRoom k (semaphore k s .waiters) then 12
-    else 0
-number k (try-acquire s) =
-    if not (whole k) then 1
-    else if ltb 3 s then 20
-    else 0
-number k (release s) =
-    if not (whole k) then 1
-    else if ltb 3 s then 20
-    else if eqb (semaphore k s .count) 4294967295 then 19
-    else 0
-number k (event-wait e) =
-    if not (whole k) then 1
-    else if ltb 3 e then 20
-    else if not (k .started) then 2
-    else if not (event k e .signaled) && noRoom k (event k e .waiters) then 12
-    else 0
-number k (signal e) =
-    if not (whole k) then 1
-    else if ltb 3 e then 20
-    else 0
-number k (list arena records) =
-    if not (whole k && hasArenaLength k arena) then 1
-    else if ltb (length records) (k .«task_count») then 21
-    else 0
+number k c = firstOf (notWhole k ∷ checks k c)
 
 -- ---- the value of an accepted call
 
@@ -278,10 +282,7 @@ listRecords k arena records =
 -- ---- `init`, 01's fresh
 
 unfoldable pub initNumber : ℕ → ℕ → ℕ
-initNumber hz words =
-    if not (arenaFits words) then 1
-    else if eqb hz 0 then 7
-    else 0
+initNumber hz words = firstOf ((1 when not (arenaFits words)) ∷ (7 when eqb hz 0) ∷ [])
 
 -- a refused one is the blank kernel
 unfoldable pub init : ℕ → ℕ → Answer
@@ -289,6 +290,13 @@ init hz words = if eqb (initNumber hz words) 0 then accepted Nothing (freshKerne
 
 unfoldable pub initWords : ℕ → List ℕ → List ℕ
 initWords hz arena = if eqb (initNumber hz (length arena)) 0 then painted (record { start = 0; size = 8192 }) arena else arena
+
+-- ---- lists of calls from fresh
+
+-- the kernels that a list of calls reaches from an accepted fresh, refused ones included, whatever their arguments
+pub data Reached : Kernel → Type 0 where
+  fresh : (hz words : ℕ) → initNumber hz words ≡ 0 → Reached (init hz words .kernel)
+  called : {k : Kernel} (c : Call) → Reached k → Reached (step k c .kernel)
 
 -- ---- the exported pick, over 16 state bytes and 16 priority bytes
 

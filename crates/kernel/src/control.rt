@@ -1,7 +1,7 @@
 // Tasks and their slots in the table: task/control.rs of the source.
 ghost use mathlib.Core.Path.{_≡_};
 ghost use Rattle.kernel.specs.Update.{withState, withWaiter, withTimeSlice};
-ghost use Rattle.kernel.specs.Control.{stateNumber, sameId, names, blankSlot};
+ghost use Rattle.kernel.specs.Control.{stateNumber, inState, sameId, names, blankSlot};
 
 // A place in the table, 0 to 15; never taken for a task's id.
 pub struct SlotIndex(pub usize);
@@ -58,6 +58,9 @@ pub struct TaskInfo {
 }
 
 impl TaskId {
+    // As `next_id` counts, which goes one past it.
+    pub const LAST: u64 = u32::MAX as u64;
+
     pub fn is(self, other: TaskId) -> bool
         ensures { λ r. ⌜ r ≡ sameId self other ⌝ }
     {
@@ -79,6 +82,9 @@ impl OptionTaskId {
 
 impl StackRegion {
     pub const MIN_SIZE: u32 = 16;
+
+    // A word of the arena has four bytes.
+    pub const WORD_SIZE: u32 = 4;
 }
 
 impl TaskState {
@@ -122,6 +128,43 @@ impl TaskControl {
             sp: 0,
             result: 0,
         }
+    }
+
+    pub fn is_in(self, state: TaskState) -> bool
+        ensures { λ r. ⌜ r ≡ inState state self ⌝ }
+    {
+        let own = self.state;
+        own.number() == state.number()
+    }
+
+    pub fn is_ready(self) -> bool
+        ensures { λ r. ⌜ r ≡ inState TaskState.Ready self ⌝ }
+    {
+        self.is_in(TaskState::Ready)
+    }
+
+    pub fn is_running(self) -> bool
+        ensures { λ r. ⌜ r ≡ inState TaskState.Running self ⌝ }
+    {
+        self.is_in(TaskState::Running)
+    }
+
+    pub fn is_blocked(self) -> bool
+        ensures { λ r. ⌜ r ≡ inState TaskState.Blocked self ⌝ }
+    {
+        self.is_in(TaskState::Blocked)
+    }
+
+    pub fn is_sleeping(self) -> bool
+        ensures { λ r. ⌜ r ≡ inState TaskState.Sleeping self ⌝ }
+    {
+        self.is_in(TaskState::Sleeping)
+    }
+
+    pub fn is_terminated(self) -> bool
+        ensures { λ r. ⌜ r ≡ inState TaskState.Terminated self ⌝ }
+    {
+        self.is_in(TaskState::Terminated)
     }
 
     pub fn with_time_slice(mut self, time_slice: u32) -> Self

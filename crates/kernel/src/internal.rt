@@ -1,4 +1,4 @@
-// A constructor that asks something of its caller. No calls.
+// A constructor that asks something of its caller, and a sum that the leaves share. No calls.
 use crate::control::OptionTaskId;
 use crate::control::Priority;
 use crate::control::StackRegion;
@@ -6,8 +6,15 @@ use crate::control::TaskControl;
 use crate::control::TaskId;
 use crate::control::TaskState;
 ghost use mathlib.Core.Path.{_≡_};
-ghost use Prim.Native.Nat.{_+_, _<_, _^_};
+ghost use Prim.Native.Nat.{_+_, _-_, _<_, _^_};
 ghost use Rattle.kernel.specs.Control.{newTask};
+
+// 0 stays.
+pub fn one_less(n: u32) -> u32
+    ensures { λ r. ⌜ r ≡ n - 1 ⌝ }
+{
+    if n == 0 { 0 } else { n - 1 }
+}
 
 impl TaskControl {
     pub fn new(id: TaskId, priority: Priority, stack: StackRegion) -> Self

@@ -1,24 +1,30 @@
-// The choice of the next task: `next_task` of sched/scheduler.rs, and the same over bytes for C.
-use kernel::control::SlotIndex;
-use kernel::control::TaskControl;
+// The choice of the next task over bytes, for C. Module `internal` has the same over the table.
 use kernel::scheduler::Kernel;
 ghost use mathlib.Core.Path.{_≡_};
-ghost use mathlib.Core.Bool.{false};
 ghost use Prim.Native.Nat.{ℕ, _<_};
 ghost use lib.Dec.{eqb, ltb};
 ghost use lib.ListN.{length, getD};
 ghost use Rattle.base.specs.Choice.{if_then_else_};
 ghost use Rattle.base.specs.Below.{anyBelow};
-ghost use Rattle.kernel.specs.declared.control.TaskState.the-variants.{Ready};
-ghost use Rattle.kernel.specs.Control.{holdsTask};
-ghost use Rattle.kernel.specs.Scheduler.{pick, isReady, priorityOf, nextTask};
+ghost use Rattle.kernel.specs.Scheduler.{pick};
 ghost use Rattle.kernel.specs.Calls.{pickBytes};
 ghost use Rattle.pick.specs.Keys.{IsKey, IsLeast, firstFrom};
+
+pub mod internal;
+
+// The key of a slot that is not Ready; a rank is below it.
+const NOT_READY: u16 = 256;
+
+// The state byte of an empty slot, after the states' numbers.
+const EMPTY: u8 = 6;
+
+// What stands for refusal 22.
+const REFUSED: u8 = 255;
 
 fn key(ready: bool, rank: u8) -> u16
     ensures { λ r. ⌜ IsKey ready rank r ⌝ }
 {
-    if ready { rank as u16 } else { 256 }
+    if ready { rank as u16 } else { NOT_READY }
 }
 
 fn smaller(a: u16, b: u16) -> u16
@@ -30,7 +36,7 @@ fn smaller(a: u16, b: u16) -> u16
 fn least(keys: [u16; Kernel::MAX_TASKS]) -> u16
     ensures { λ r. ⌜ IsLeast keys 16 r ⌝ }
 {
-    let mut best: u16 = 256;
+    let mut best = NOT_READY;
     for i in 0..Kernel::MAX_TASKS {
         best = smaller(keys[i], best);
     }
@@ -41,9 +47,9 @@ fn least(keys: [u16; Kernel::MAX_TASKS]) -> u16
 fn first_from(keys: [u16; Kernel::MAX_TASKS], current: usize, best: u16) -> usize
     ensures { λ r. ⌜ r ≡ firstFrom keys current best ⌝ }
 {
-    let from = current % 16 + 1;
+    let from = current % Kernel::MAX_TASKS + 1;
     for n in 0..Kernel::MAX_TASKS {
-        let at = (from + n) % 16;
+        let at = (from + n) % Kernel::MAX_TASKS;
         if keys[at] == best {
             return at;
         }
@@ -55,45 +61,17 @@ fn pick_key(keys: [u16; Kernel::MAX_TASKS], current: usize) -> usize
     ensures { λ r. ⌜ r ≡ pick (λ i. ltb (getD keys i 0) 256) (λ i. getD keys i 0) current ⌝ }
 {
     let best = least(keys);
-    if 256 <= best {
+    if NOT_READY <= best {
         return 0;
     }
     first_from(keys, current, best)
-}
-
-fn task_key(t: TaskControl) -> u16
-    ensures { λ r. ⌜ IsKey (holdsTask Ready t) (t .priority .0) r ⌝ }
-{
-    let state = t.state;
-    let ready = t.occupied & (state.number() == 0);
-    key(ready, t.priority.0)
-}
-
-fn task_keys(k: Kernel) -> [u16; Kernel::MAX_TASKS]
-    ensures { λ r. ⌜ ((i : ℕ) → i < 16 → IsKey (isReady k i) (priorityOf k i) (getD r i 0)) ⌝ }
-{
-    let mut keys = [256u16; Kernel::MAX_TASKS];
-    for i in 0..Kernel::MAX_TASKS {
-        let key = task_key(k.tasks[i]);
-        keys[i] = key;
-    }
-    keys
-}
-
-// The slot of the smallest priority among the Ready ones, the first of them from current + 1 cyclically; 0 where none is Ready.
-pub fn next_task(k: Kernel) -> SlotIndex
-    ensures { λ r. ⌜ (r .0 ≡ nextTask k) × (r .0 < 16) ⌝ }
-{
-    let keys = task_keys(k);
-    let current = k.current.0;
-    SlotIndex(pick_key(keys, current))
 }
 
 fn byte_keys(states: &[u8], priorities: &[u8]) -> [u16; Kernel::MAX_TASKS]
     requires { ⌜ (length (now states) ≡ 16) × (length (now priorities) ≡ 16) ⌝ }
     ensures { λ r. ⌜ ((i : ℕ) → i < 16 → IsKey (eqb (getD (now (states .entry)) i 0) 0) (getD (now (priorities .entry)) i 0) (getD r i 0)) ⌝ }
 {
-    let mut keys = [256u16; Kernel::MAX_TASKS];
+    let mut keys = [NOT_READY; Kernel::MAX_TASKS];
     for i in 0..Kernel::MAX_TASKS {
         let key = key(states[i] == 0, priorities[i]);
         keys[i] = key;
@@ -101,14 +79,14 @@ fn byte_keys(states: &[u8], priorities: &[u8]) -> [u16; Kernel::MAX_TASKS]
     keys
 }
 
-// Whether one of the sixteen is no state's number, nor 6 for an empty slot.
+// Whether one of the sixteen is no state's number, nor that of an empty slot.
 fn any_unknown(states: &[u8]) -> bool
     requires { ⌜ length (now states) ≡ 16 ⌝ }
     ensures { λ r. ⌜ r ≡ anyBelow (λ i. ltb 6 (getD (now (states .entry)) i 0)) 16 ⌝ }
 {
     let mut found = false;
     for i in 0..Kernel::MAX_TASKS {
-        found = found | (6 < states[i]);
+        found = found | (EMPTY < states[i]);
     }
     found
 }
@@ -119,16 +97,16 @@ pub extern "C" fn pick(states: &[u8], priorities: &[u8], current: u8) -> u8
     ensures { λ r. ⌜ r ≡ pickBytes (now (states .entry)) (now (priorities .entry)) current ⌝ }
 {
     if states.len() != Kernel::MAX_TASKS {
-        return 255;
+        return REFUSED;
     }
     if priorities.len() != Kernel::MAX_TASKS {
-        return 255;
+        return REFUSED;
     }
     if any_unknown(states) {
-        return 255;
+        return REFUSED;
     }
-    if 15 < current {
-        return 255;
+    if Kernel::MAX_TASKS <= current as usize {
+        return REFUSED;
     }
     let keys = byte_keys(states, priorities);
     pick_key(keys, current as usize) as u8

@@ -10,12 +10,12 @@ use lib.Seq.{sets-eq, drop-drop, take-all}
 use Rattle.base.proofs.Choices.{either}
 use Rattle.kernel.specs.declared.scheduler.Answer.{Answer}
 use Rattle.kernel.specs.Calls.{initWords}
-use Rattle.text.specs.Text.{Writes}
-use Rattle.text.proofs.Writing.{written-then, written-length, same-text}
-use Rattle.session.specs.declared.Session.{Session}
-use Rattle.session.specs.declared.Played.{Played}
-use Rattle.session.specs.Session.{opened, answerOf, fed, fedArena, said, after, afterArena, replies, reply, replyRoom, rest, Plays, printed}
-use Rattle.session.proofs.Playing.{both, answer-alone, no-table}
+use Rattle.line_text.specs.Text.{Writes}
+use Rattle.line_text.proofs.Writing.{written-then, written-length, same-text}
+use Rattle.line_session.specs.declared.Session.{Session}
+use Rattle.line_session.specs.declared.Played.{Played}
+use Rattle.line_session.specs.Session.{opened, answerOf, fed, fedArena, said, after, afterArena, replies, reply, replyRoom, rest, Plays, printed}
+use Rattle.line_session.proofs.Playing.{both, answer-alone, no-table}
 use Rattle.play_list.specs.PlayList.{listRoom}
 
 -- ---- how long the replies are

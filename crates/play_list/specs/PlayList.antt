@@ -4,8 +4,8 @@ use mathlib.Core.Path.{_≡_}
 use mathlib.Core.Bool.{false}
 use mathlib.Core.List.{List}
 use lib.ListN.{length}
-use Rattle.text.specs.Text.{Writes}
-use Rattle.session.specs.Session.{printed}
+use Rattle.line_text.specs.Text.{Writes}
+use Rattle.line_session.specs.Session.{printed}
 
 -- an answer is 13 bytes long; each byte of the list has room for one, and so has its end
 abbrev pub listRoom : List ℕ → ℕ

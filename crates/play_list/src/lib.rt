@@ -1,9 +1,10 @@
 // A whole list of lines at once, for C and Rust to link.
+use line_session::Session;
 ghost use Prim.Native.Nat.{_≤_};
 ghost use mathlib.Core.Bool.{false};
 ghost use lib.ListN.{length};
-ghost use Rattle.text.specs.Text.{Writes};
-ghost use Rattle.session.specs.Session.{printed};
+ghost use Rattle.line_text.specs.Text.{Writes};
+ghost use Rattle.line_session.specs.Session.{printed};
 ghost use Rattle.play_list.specs.PlayList.{listRoom, PlaysList};
 
 // The list from fresh, then its end.
@@ -12,12 +13,12 @@ fn play_all(list: &[u8], out: &mut [u8]) -> usize
     ensures { λ r. ⌜ Writes (now (out .entry)) 0 (printed false (now (list .entry))) (now (out .exit)) r ⌝ }
     ensures short { λ r. ⌜ r ≤ length (now (out .exit)) ⌝ }
 {
-    let mut arena = [0u32; 4096];
-    let opened = session::open(&mut arena);
-    let played = session::internal::play(opened, false, list, &mut arena, out);
+    let mut arena = [0u32; Session::ARENA_WORDS];
+    let opened = line_session::open(&mut arena);
+    let played = line_session::internal::play(opened, false, list, &mut arena, out);
     let n = played.len;
     let session = played.session;
-    let finished = session::internal::finish(session, false, &mut arena, &mut out[n..]);
+    let finished = line_session::internal::finish(session, false, &mut arena, &mut out[n..]);
     n + finished.len
 }
 
@@ -29,7 +30,7 @@ pub extern "C" fn play_list(list: &[u8], out: &mut [u8]) -> usize
     ensures { λ r. ⌜ PlaysList (now (list .entry)) (now (out .entry)) (now (out .exit)) r ⌝ }
     ensures short { λ r. ⌜ r ≤ length (now (out .exit)) ⌝ }
 {
-    if out.len() / 13 <= list.len() {
+    if out.len() / Session::ANSWER_BYTES <= list.len() {
         return 0;
     }
     play_all(list, out)

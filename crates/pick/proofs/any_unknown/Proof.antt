@@ -14,33 +14,15 @@ Inv-loop states found₀ i₀ found i = Upto (anyBelow (λ j. ltb 6 (getD states
 abbrev μ-loop : tie.MeasureT-loop
 μ-loop states found₀ i₀ found i = 16 - i
 
-loop-holds : tie.Need-loop-holds Inv-loop μ-loop
-loop-holds c = any-start _ _
-
-shared-slice-read-found : tie.Need-shared-slice-read-found Inv-loop μ-loop
-shared-slice-read-found c = search needs
-
-add-i : tie.Need-add-i Inv-loop μ-loop
-add-i c = search needs
-
-loop-less : tie.Need-loop-less Inv-loop μ-loop
-loop-less c = search needs
-
-loop-again : tie.Need-loop-again Inv-loop μ-loop
-loop-again c = search (upto-any, needs)
-
-returns : tie.Need-returns Inv-loop μ-loop
-returns c = search any-done
-
 pub any-unknown-spec : {M : Type 1} → statement M
 any-unknown-spec =
     tie.close
     (tie.spec
     Inv-loop
     μ-loop
-    loop-holds
-    shared-slice-read-found
-    add-i
-    loop-less
-    loop-again
-    returns)
+    (λ c. any-start _ _)
+    (λ c. search needs)
+    (λ c. search needs)
+    (λ c. search needs)
+    (λ c. search (upto-any, needs))
+    (λ c. search any-done))

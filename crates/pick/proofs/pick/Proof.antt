@@ -19,9 +19,6 @@ returns-2 : tie.Need-returns-2
 unfolding pickBytes if_then_else_
 returns-2 c = rw (eq-eqb _ _ (c .before .if1 .left), ne-eqb _ _ (c .if2 .taken))
 
-any-unknown-requires : tie.Need-any-unknown-requires
-any-unknown-requires c κs = search needs
-
 returns-3 : tie.Need-returns-3
 unfolding pickBytes if_then_else_
 returns-3 c = rw (eq-eqb _ _ (c .before .before .before .if1 .left), eq-eqb _ _ (c .before .before .if2 .left), ← c .before .any-unknown .ensures, c .if3 .taken)
@@ -30,18 +27,12 @@ returns-4 : tie.Need-returns-4
 unfolding pickBytes if_then_else_
 returns-4 c = rw (eq-eqb _ _ (c .before .before .before .before .if1 .left), eq-eqb _ _ (c .before .before .before .if2 .left), ← c .before .before .any-unknown .ensures, c .before .if3 .left, lt-ltb _ _ (c .if4 .taken))
 
-byte-keys-requires : tie.Need-byte-keys-requires
-byte-keys-requires c κs = search needs
-
-pick-key-requires : tie.Need-pick-key-requires
-pick-key-requires c κs = search needs
-
 cast-result : tie.Need-cast-result
 cast-result c = let h : c .pick-key .result < 16 = rw (c .pick-key .ensures) (pick-lt _ _ _) in omega arith
 
 returns-5 : tie.Need-returns-5
 unfolding pickBytes if_then_else_
-returns-5 c = rw (eq-eqb _ _ (c .before .before .before .before .before .before .if1 .left), eq-eqb _ _ (c .before .before .before .before .before .if2 .left), ← c .before .before .before .before .any-unknown .ensures, c .before .before .before .if3 .left, le-ltb _ _ (c .before .before .if4 .left)) (c .pick-key .ensures ∙ keys-pick _ _ (c .before .byte-keys .result) (c .before .byte-keys .ensures) _)
+returns-5 c = rw (eq-eqb _ _ (c .before .before .before .before .before .before .if1 .left), eq-eqb _ _ (c .before .before .before .before .before .if2 .left), ← c .before .before .before .before .any-unknown .ensures, c .before .before .before .if3 .left, le-ltb 15 (c .before .before .before .before .before .before .before .before .before .args .current) (omega arith)) (c .pick-key .ensures ∙ keys-pick _ _ (c .before .byte-keys .result) (c .before .byte-keys .ensures) _)
 
 pub pick-spec : {M : Type 1} → statement M
 pick-spec =
@@ -49,10 +40,10 @@ pick-spec =
     (tie.spec
     returns
     returns-2
-    any-unknown-requires
+    (λ c κs. search needs)
     returns-3
     returns-4
-    byte-keys-requires
-    pick-key-requires
+    (λ c κs. search needs)
+    (λ c κs. search needs)
     cast-result
     returns-5)

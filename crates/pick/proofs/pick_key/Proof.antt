@@ -6,17 +6,11 @@ use borrow.Author.Needs.{needs}
 use Rattle.pick.proofs.pick_key.Statement.{statement}
 use Rattle.pick.proofs.pick_key.Tie as tie
 
-least-requires : tie.Need-least-requires
-least-requires c κs = search needs
-
 returns : tie.Need-returns
 returns c = pick-none _ _ _ (none-ready _ _ (c .before .least .ensures) (c .if1 .taken))
-
-first-from-requires : tie.Need-first-from-requires
-first-from-requires c κs = search needs
 
 returns-2 : tie.Need-returns-2
 returns-2 c = c .first-from .ensures ∙ first-is _ _ (c .before .before .least .ensures) (c .before .if1 .left) _
 
 pub pick-key-spec : {M : Type 1} → statement M
-pick-key-spec = tie.close (tie.spec least-requires returns first-from-requires returns-2)
+pick-key-spec = tie.close (tie.spec (λ c κs. search needs) returns (λ c κs. search needs) returns-2)

@@ -8,14 +8,8 @@ use Rattle.play_list.proofs.play_list.Tie as tie
 returns : tie.Need-returns
 returns c = (record { played = λ fits. absurd (omega arith); refused = λ small. (refl, refl) }, omega arith)
 
-play-all-requires : tie.Need-play-all-requires
-play-all-requires c κs = search needs
-
-same-length : tie.Need-same-length
-same-length c = search needs
-
 returns-2 : tie.Need-returns-2
 returns-2 c = (record { played = λ fits. c .before .before .play-all .ensures .0; refused = λ small. absurd (omega arith) }, c .before .before .play-all .ensures .1)
 
 pub play-list-spec : {M : Type 1} → statement M
-play-list-spec = tie.close (tie.spec returns play-all-requires same-length returns-2)
+play-list-spec = tie.close (tie.spec returns (λ c κs. search needs) (λ c. search needs) returns-2)

@@ -4,21 +4,9 @@ use borrow.Author.Needs.{needs}
 use Rattle.kernel.proofs.scheduler.Kernel.blank.Statement.{statement}
 use Rattle.kernel.proofs.scheduler.Kernel.blank.Tie as tie
 
-empty-requires : tie.Need-empty-requires
-empty-requires c κs = search needs
-
-new-requires : tie.Need-new-requires
-new-requires c κs = search needs
-
-new-requires-2 : tie.Need-new-requires-2
-new-requires-2 c κs = search needs
-
-new-requires-3 : tie.Need-new-requires-3
-new-requires-3 c κs = search needs
-
 returns : tie.Need-returns
 unfolding blankKernel
 returns c = rw (c .new3 .ensures, c .before .new2 .ensures, c .before .before .new .ensures, c .before .before .before .empty .ensures)
 
 pub blank-spec : {M : Type 1} → statement M
-blank-spec = tie.close (tie.spec empty-requires new-requires new-requires-2 new-requires-3 returns)
+blank-spec = tie.close (tie.spec (λ c κs. search needs) (λ c κs. search needs) (λ c κs. search needs) (λ c κs. search needs) returns)

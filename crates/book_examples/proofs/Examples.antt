@@ -1,0 +1,69 @@
+-- Each claim about a computed list, by computation; and the third sentence applied to one.
+use mathlib.Core.Path.{_≡_, refl, subst}
+use mathlib.Core.List.{List, [], _∷_, _++_}
+use lib.ListN.{take, drop}
+use Rattle.base.specs.Choice.{if_then_else_, every}
+use Rattle.base.specs.Below.{allBelow, anyBelow, countBelow, lowestBelow}
+use Rattle.kernel.specs.declared.scheduler.Kernel.{Kernel}
+use Rattle.kernel.specs.Control.{holdsTask, regionFits, regionsOverlap, painted, stackGuardOk, spInRange}
+use Rattle.kernel.specs.Kernel.{arenaFits, whole, freshKernel, slotOf}
+use Rattle.kernel.specs.Scheduler.{isBest, pick, lowestEmpty, overlapsPresent, isDue, woken, advanced, sliced, wants, wantsSwitch, contextSaved, reloaded}
+use Rattle.kernel.specs.Scheduler
+use Rattle.kernel.specs.Calls.{Call, number, value, effect, valueNumber, step, init, initNumber}
+use Rattle.book_guarantees.specs.Lists.{Returned, outcomeOf, outcome, sum}
+use Rattle.book_guarantees.proofs.TurnGuarantee.{turn-guarantee}
+use Rattle.book_examples.specs.Tests.{entry, between, second}
+use Rattle.book_examples.specs.Examples.{run, arena, id, unpainted, mixed-calls, mixed, Mixed, two-tasks, idle-round, late-switch, smaller-number, first-sleeps, not-neighbours, other-sleeps, other-priority, Examples}
+use Rattle.book_examples.proofs.Checked.{stretch-is, peer-is}
+
+pub examples : Examples
+unfolding arena unpainted painted mixed mixed-calls two-tasks idle-round late-switch smaller-number first-sleeps not-neighbours other-sleeps other-priority outcome outcomeOf step number value effect valueNumber init initNumber freshKernel whole arenaFits if_then_else_ every allBelow anyBelow countBelow lowestBelow holdsTask regionFits regionsOverlap stackGuardOk spInRange slotOf isBest pick lowestEmpty overlapsPresent isDue woken advanced sliced wants wantsSwitch contextSaved reloaded Scheduler.add Scheduler.start Scheduler.tick Scheduler.switch sum
+examples = record {
+  refused = refl;
+  mixed-fresh = refl;
+  mixed-stretch = refl;
+  mixed-peer = refl;
+  stretch = refl;
+  a-peer = refl;
+  own-five = (refl, refl);
+  peer-five = (refl, refl);
+  idle-stretch = refl;
+  seventy-five = refl;
+  task-stretch = refl;
+  seventy-one = refl;
+  late = refl;
+  late-rise = refl;
+  smaller = refl;
+  smaller-waits = (refl, refl);
+  first = refl;
+  first-two = (refl, refl);
+  neighbours = refl;
+  neighbour-two = (refl, refl);
+  asleep = refl;
+  asleep-none = (refl, refl);
+  unequal = refl;
+  unequal-none = (refl, refl);
+}
+
+run-returned : (k : Kernel) (cs : List Call) → Returned k (run k cs)
+run-returned k [] = tt
+run-returned k (c ∷ cs) = (refl, run-returned (step k c .kernel) cs)
+
+split : mixed ≡ take 2 mixed ++ entry mixed 2 ∷ (between mixed 2 11 ++ second mixed 2 11 ∷ drop 15 mixed)
+unfolding mixed mixed-calls
+split = refl
+
+mixed-returned : Returned (init 1000 2112 .kernel) (take 2 mixed ++ entry mixed 2 ∷ (between mixed 2 11 ++ second mixed 2 11 ∷ drop 15 mixed))
+unfolding mixed
+mixed-returned = subst (Returned (init 1000 2112 .kernel)) split (run-returned (init 1000 2112 .kernel) mixed-calls)
+
+pub mixed-fair : Mixed
+mixed-fair =
+    let s = stretch-is mixed 2 11 1 (id 1) (examples .mixed-stretch) in
+    record {
+      fresh = examples .mixed-fresh;
+      returned = mixed-returned;
+      stretch = s;
+      a-peer = peer-is mixed 2 11 1 2 (id 2) (examples .mixed-peer);
+      fair = turn-guarantee 1000 2112 (examples .mixed-fresh) (take 2 mixed) (between mixed 2 11) (drop 15 mixed) (entry mixed 2) (second mixed 2 11) mixed-returned 1 (id 1) s;
+    }

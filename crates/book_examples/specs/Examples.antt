@@ -1,0 +1,148 @@
+-- Computed lists: one that meets every premise of the third sentence, lists in which its bounds are met, and for each condition on what happens between, and on a peer, a list that meets all others, in which
+-- the claim fails.
+use mathlib.Core.Path.{_≡_}
+use mathlib.Core.Bool.{true, false}
+use mathlib.Core.List.{List, [], _∷_, _++_, map}
+use Prim.Native.Nat.{ℕ, zero, suc, _+_, _*_}
+use lib.Dec.{eqb}
+use lib.ListN.{take, drop, replicate}
+use Rattle.base.specs.Choice.{if_then_else_, every}
+use Rattle.kernel.specs.declared.control.TaskId.{TaskId}
+use Rattle.kernel.specs.declared.control.StackRegion.{StackRegion}
+use Rattle.kernel.specs.declared.scheduler.Kernel.{Kernel}
+use Rattle.kernel.specs.Control.{paint, painted}
+use Rattle.kernel.specs.Scheduler.{priorityOf}
+use Rattle.kernel.specs.Calls.{Call, add, start, tick, switch, sleep, lock, step, init, initNumber}
+use Rattle.book_guarantees.specs.Lists.{Entry, Returned, sum}
+use Rattle.book_guarantees.specs.Turns.{Stretch, Peer, Fair}
+use Rattle.book_examples.specs.Tests.{entry, between, second, conditions, peer, turnsOf, ticksOf, riseOf}
+
+-- ---- lists of calls, from a fresh kernel with hz 1000 and 2,112 words
+
+abbrev pub run : Kernel → List Call → List Entry
+run k [] = []
+run k (c ∷ cs) = record { call = c; answer = step k c } ∷ run (step k c .kernel) cs
+
+abbrev pub played : List Call → List Entry
+played cs = run (init 1000 2112 .kernel) cs
+
+unfoldable pub arena : List ℕ
+arena = replicate 2112 paint
+
+-- task n, from 1, gets the 16 bytes from 8,176 + 16 n on; n 0 is idle, whose last 16 bytes those are
+abbrev pub region : ℕ → StackRegion
+region n = record { start = 8176 + 16 * n; size = 16 }
+
+abbrev pub task : ℕ → ℕ → Call
+task n p = add arena (record { 0 = p }) (region n)
+
+-- a switch while task n is current
+abbrev pub leave : ℕ → Call
+leave n = switch arena (8176 + 16 * n)
+
+abbrev pub id : ℕ → TaskId
+id n = record { 0 = n }
+
+abbrev pub tasks : ℕ → ℕ → ℕ → List Call
+tasks p n zero = []
+tasks p n (suc m) = task n p ∷ tasks p (suc n) m
+
+-- five ticks and a switch of the tasks from n on, m of them
+abbrev pub rounds : ℕ → ℕ → List Call
+rounds n zero = []
+rounds n (suc m) = tick ∷ tick ∷ tick ∷ tick ∷ tick ∷ leave n ∷ rounds (suc n) m
+
+-- ---- refused calls, and words that are not painted
+
+unfoldable pub unpainted : List ℕ
+unpainted = replicate 2112 0
+
+-- a switch while task n is current, with no region painted but its own
+abbrev pub leave-unpainted : ℕ → Call
+leave-unpainted n = switch (painted (region n) unpainted) (8176 + 16 * n)
+
+-- the turns of task 1 are entries 2 and 14
+unfoldable pub mixed-calls : List Call
+mixed-calls =
+    task 1 128 ∷ add unpainted (record { 0 = 128 }) (region 2) ∷ start
+    ∷ tick ∷ switch unpainted 8192 ∷ task 2 128 ∷ tick ∷ lock 4 ∷ tick ∷ tick ∷ tick ∷ leave-unpainted 1 ∷ tick ∷ start
+    ∷ leave-unpainted 2 ∷ tick ∷ []
+
+unfoldable pub mixed : List Entry
+mixed = played mixed-calls
+
+-- every premise of the sentence, and its conclusion
+pub record Mixed : Type 0 where
+  pub fresh : initNumber 1000 2112 ≡ 0
+  pub returned : Returned (init 1000 2112 .kernel) (take 2 mixed ++ entry mixed 2 ∷ (between mixed 2 11 ++ second mixed 2 11 ∷ drop 15 mixed))
+  pub stretch : Stretch priorityOf 1 (id 1) (entry mixed 2) (between mixed 2 11) (second mixed 2 11)
+  pub a-peer : Peer priorityOf 1 (entry mixed 2) (between mixed 2 11) 2 (id 2)
+  pub fair : Fair (Peer priorityOf 1 (entry mixed 2) (between mixed 2 11)) 1 (entry mixed 2) (between mixed 2 11)
+
+-- ---- the bounds are met, and each condition is needed
+
+-- two tasks alike, five ticks each: the turns of task 1 are entries 2 and 14
+unfoldable pub two-tasks : List Entry
+two-tasks = played (task 1 128 ∷ task 2 128 ∷ start ∷ rounds 1 2)
+
+-- idle among fifteen tasks at 255: its first turn is entry 105, its second entry 197; those of task 1 are entries 15 and 107
+unfoldable pub idle-round : List Entry
+idle-round = played (tasks 255 1 15 ++ (start ∷ rounds 1 15 ++ (tick ∷ leave 0 ∷ rounds 1 15)))
+
+-- a wanted switch that does not come next: six ticks of one turn
+unfoldable pub late-switch : List Entry
+late-switch = played (task 1 128 ∷ task 2 128 ∷ start ∷ tick ∷ tick ∷ tick ∷ tick ∷ tick ∷ tick ∷ leave 1 ∷ leave 2 ∷ [])
+
+-- a task with a smaller number has a turn between: slot 2 is picked again, though slot 3 waited (01's trap)
+unfoldable pub smaller-number : List Entry
+smaller-number = played (task 1 1 ∷ task 2 9 ∷ task 3 9 ∷ start ∷ sleep 1 ∷ leave 1 ∷ tick ∷ leave 2 ∷ sleep 5 ∷ leave 1 ∷ [])
+
+-- the first task sleeps between: the other has two turns
+unfoldable pub first-sleeps : List Entry
+first-sleeps = played (task 1 9 ∷ task 2 9 ∷ start ∷ sleep 1 ∷ leave 1 ∷ leave 2 ∷ tick ∷ leave 2 ∷ [])
+
+-- turns that are not neighbours: the other has two
+unfoldable pub not-neighbours : List Entry
+not-neighbours = played (task 1 9 ∷ task 2 9 ∷ start ∷ leave 1 ∷ leave 2 ∷ leave 1 ∷ leave 2 ∷ [])
+
+-- the other task sleeps all along: it has none
+unfoldable pub other-sleeps : List Entry
+other-sleeps = played (task 1 9 ∷ task 2 9 ∷ start ∷ leave 1 ∷ sleep 5 ∷ leave 2 ∷ leave 1 ∷ [])
+
+-- another priority: it has none
+unfoldable pub other-priority : List Entry
+other-priority = played (task 1 9 ∷ task 2 10 ∷ start ∷ leave 1 ∷ [])
+
+pub record Examples : Type 0 where
+  -- refused are a switch whose guard is not painted, an add of a region that is taken, a lock of no object, a second start
+  pub refused : map (λ (e : Entry). e .answer .number) mixed ≡ 0 ∷ 0 ∷ 0 ∷ 0 ∷ 17 ∷ 5 ∷ 0 ∷ 20 ∷ 0 ∷ 0 ∷ 0 ∷ 0 ∷ 0 ∷ 3 ∷ 0 ∷ 0 ∷ []
+  pub mixed-fresh : initNumber 1000 2112 ≡ 0
+  pub mixed-stretch : every (conditions mixed 2 11 1 (id 1)) ≡ true
+  pub mixed-peer : every (peer mixed 2 11 1 2 (id 2)) ≡ true
+  -- both fives are met, the first task's and its peer's
+  pub stretch : every (conditions two-tasks 2 11 1 (id 1)) ≡ true
+  pub a-peer : every (peer two-tasks 2 11 1 2 (id 2)) ≡ true
+  pub own-five : (ticksOf two-tasks 2 11 1 ≡ 5) × (riseOf two-tasks 2 11 1 ≡ 5)
+  pub peer-five : (ticksOf two-tasks 2 11 2 ≡ 5) × (riseOf two-tasks 2 11 2 ≡ 5)
+  -- 75 is met, and 71 for a task that is not idle
+  pub idle-stretch : every (conditions idle-round 105 91 0 (id 0)) ≡ true
+  pub seventy-five : sum (λ j. if eqb j 0 then 0 else riseOf idle-round 105 91 j) 16 ≡ 75
+  pub task-stretch : every (conditions idle-round 15 91 1 (id 1)) ≡ true
+  pub seventy-one : sum (λ j. if eqb j 1 then 0 else riseOf idle-round 15 91 j) 16 ≡ 71
+  -- all but "followed": a rise of 6
+  pub late : conditions late-switch 2 7 1 (id 1) ≡ true ∷ true ∷ true ∷ true ∷ true ∷ false ∷ []
+  pub late-rise : riseOf late-switch 2 7 1 ≡ 6
+  -- all but "none smaller": a peer has no turn
+  pub smaller : conditions smaller-number 5 3 2 (id 2) ≡ true ∷ true ∷ true ∷ true ∷ false ∷ true ∷ []
+  pub smaller-waits : (every (peer smaller-number 5 3 2 3 (id 3)) ≡ true) × (turnsOf smaller-number 5 3 3 ≡ 0)
+  -- all but "stays": a peer has two turns
+  pub first : conditions first-sleeps 2 4 1 (id 1) ≡ true ∷ true ∷ true ∷ false ∷ true ∷ true ∷ []
+  pub first-two : (every (peer first-sleeps 2 4 1 2 (id 2)) ≡ true) × (turnsOf first-sleeps 2 4 2 ≡ 2)
+  -- all but "neighbouring": a peer has two turns
+  pub neighbours : conditions not-neighbours 2 3 1 (id 1) ≡ true ∷ true ∷ false ∷ true ∷ true ∷ true ∷ []
+  pub neighbour-two : (every (peer not-neighbours 2 3 1 2 (id 2)) ≡ true) × (turnsOf not-neighbours 2 3 2 ≡ 2)
+  -- a stretch, and a task that would be a peer had it stayed, or had it the same priority: it has no turn
+  pub asleep : every (conditions other-sleeps 5 0 1 (id 1)) ≡ true
+  pub asleep-none : (peer other-sleeps 5 0 1 2 (id 2) ≡ true ∷ true ∷ false ∷ []) × (turnsOf other-sleeps 5 0 2 ≡ 0)
+  pub unequal : every (conditions other-priority 2 0 1 (id 1)) ≡ true
+  pub unequal-none : (peer other-priority 2 0 1 2 (id 2) ≡ true ∷ false ∷ true ∷ []) × (turnsOf other-priority 2 0 2 ≡ 0)

@@ -1,0 +1,152 @@
+-- What an accepted call keeps, from the changes that it is made of. Every call: slices within 5, and the priority of a task that stays present. A call
+-- that gives no turn and no tick: current, started and the charges; and no task comes to run, or to have more ticks left.
+use mathlib.Core.Path.{_≡_, refl, sym, _∙_}
+use mathlib.Core.Bool.{Bool, true, false}
+use Prim.Native.Nat.{ℕ, _≤_}
+use native.Mathlib.Nat.{le-refl, le-trans}
+use native.Mathlib.Omega.{arith}
+use lib.Dec.{eqb}
+use Rattle.base.proofs.Choices.{either}
+use Rattle.kernel.specs.declared.control.TaskControl.{TaskControl}
+use Rattle.kernel.specs.declared.scheduler.Kernel.{Kernel}
+use Rattle.kernel.specs.Kernel.{slot, current}
+use Rattle.kernel.specs.Scheduler.{contextSaved, reloaded}
+use Rattle.kernel.specs.Scheduler
+use Rattle.kernel.specs.Calls.{Kind, adding, reaping, starting, switching, ticking, owning, plain}
+use Rattle.kernel.proofs.Changes.{TaskChange, same, state, asleep, ended, waiter, answered, less, full, saved, Change, task, sweep, clock, permits, flag, handoff, owner, added, reaped, begun, turned, Changes, fold, SlotChange, by, counted, new, cleared, run-first, run-next, each-slot}
+use Rattle.book_guarantees.proofs.BestFirst.{clash}
+use Rattle.book_guarantees.proofs.Fairness.{runs}
+
+abbrev pub SliceFits : TaskControl → Type 0
+SliceFits t = (t .«time_slice» ≤ 5) × (t .«remaining_slice» ≤ 5)
+
+-- a call of this kind gives no turn and no tick
+abbrev pub IsOther : Kind → Type 0
+IsOther adding = Unit {0}
+IsOther reaping = Unit {0}
+IsOther starting = ⊥
+IsOther switching = ⊥
+IsOther ticking = ⊥
+IsOther owning = Unit {0}
+IsOther plain = Unit {0}
+
+-- ---- a task that stays in its slot
+
+pub record TaskKept (g : Kind) (t u : TaskControl) : Type 0 where
+  pub occupied : u .occupied ≡ t .occupied
+  pub priority : u .priority ≡ t .priority
+  pub slices : SliceFits t → SliceFits u
+  pub running : runs u ≡ true → runs t ≡ true
+  pub remaining : IsOther g → u .«remaining_slice» ≤ t .«remaining_slice»
+
+less-left : {g : Kind} {t u : TaskControl} → u .occupied ≡ t .occupied → u .priority ≡ t .priority → u .«time_slice» ≡ t .«time_slice» → u .«remaining_slice» ≤ t .«remaining_slice» → (runs u ≡ true → runs t ≡ true) → TaskKept g t u
+less-left o p s r e = record { occupied = o; priority = p; slices = λ f. (omega (arith, f .0), omega (arith, f .1)); running = e; remaining = λ _. r }
+
+pub task-kept : {g : Kind} {t u : TaskControl} → TaskChange g t u → TaskKept g t u
+unfolding contextSaved
+task-kept same = less-left refl refl refl (le-refl _) (λ e. e)
+task-kept (state s n) = less-left refl refl refl (le-refl _) (λ e. clash e n)
+task-kept (asleep n) = less-left refl refl refl (le-refl _) (λ e. clash e refl)
+task-kept ended = less-left refl refl refl (omega arith) (λ e. clash e refl)
+task-kept (waiter a) = less-left refl refl refl (le-refl _) (λ e. e)
+task-kept (answered r) = less-left refl refl refl (le-refl _) (λ e. e)
+task-kept (less n h) = less-left refl refl refl h (λ e. e)
+task-kept full = record { occupied = refl; priority = refl; slices = λ f. (f .0, f .0); running = λ e. e; remaining = λ x. absurd x }
+task-kept (saved {t = t} sp) = either (TaskKept switching t) (runs t) (λ _. less-left refl refl refl (le-refl _) (λ e. clash e refl)) (λ _. less-left refl refl refl (le-refl _) (λ e. e))
+
+pub reloaded-kept : (t : TaskControl) → ((reloaded t) .occupied ≡ t .occupied) × ((reloaded t) .priority ≡ t .priority) × (SliceFits t → SliceFits (reloaded t))
+unfolding reloaded
+reloaded-kept t = either (λ (u : TaskControl). (u .occupied ≡ t .occupied) × (u .priority ≡ t .priority) × (SliceFits t → SliceFits u)) (eqb (t .«remaining_slice») 0) (λ _. (refl, refl, λ f. (f .0, f .0))) (λ _. (refl, refl, λ f. f))
+
+-- ---- slot by slot, over all the changes of a call
+
+pub each-kept : {g : Kind} (T : TaskControl → TaskControl → Type 0) → ((t : TaskControl) → T t t) → ((t u v : TaskControl) → T t u → T u v → T t v) → ((t u : TaskControl) → SlotChange g t u → T t u)
+    → {k k′ : Kernel} → Changes g k k′ → (j : ℕ) → T (slot k j) (slot k′ j)
+each-kept T r t f cs j = fold (λ k k′. T (slot k j) (slot k′ j)) (λ k. r _) (λ _ _ _ p q. t _ _ _ p q) (λ _ _ d. each-slot T r t f d j) cs
+
+slot-fits : {g : Kind} (t u : TaskControl) → SlotChange g t u → SliceFits t → SliceFits u
+slot-fits t u (by c) f = task-kept c .slices f
+slot-fits t u (counted n) f = f
+slot-fits t u (new a p r e) f = omega arith
+slot-fits t u (cleared e) f = omega arith
+slot-fits t u run-first f = f
+slot-fits t u run-next f = reloaded-kept t .2 f
+
+pub slices-kept : {g : Kind} {k k′ : Kernel} → Changes g k k′ → (j : ℕ) → SliceFits (slot k j) → SliceFits (slot k′ j)
+slices-kept = each-kept (λ t u. SliceFits t → SliceFits u) (λ _ f. f) (λ _ _ _ p q f. q (p f)) slot-fits
+
+-- A reap empties slots and fills none, any other call fills slots and empties none: so a task that is there at both ends was there all along.
+abbrev reaps : Kind → Bool
+reaps adding = false
+reaps reaping = true
+reaps starting = false
+reaps switching = false
+reaps ticking = false
+reaps owning = false
+reaps plain = false
+
+abbrev Stay : Bool → TaskControl → TaskControl → Type 0
+Stay true t u = u .occupied ≡ true → (t .occupied ≡ true) × (u .priority ≡ t .priority)
+Stay false t u = t .occupied ≡ true → (u .occupied ≡ true) × (u .priority ≡ t .priority)
+
+stay : (b : Bool) (t u : TaskControl) → u .occupied ≡ t .occupied → u .priority ≡ t .priority → Stay b t u
+stay true t u o p = λ e. (sym o ∙ e, p)
+stay false t u o p = λ e. (o ∙ e, p)
+
+stay-on : (b : Bool) (t u v : TaskControl) → Stay b t u → Stay b u v → Stay b t v
+stay-on true t u v p q = λ e. let y = q e in let x = p (y .0) in (x .0, y .1 ∙ x .1)
+stay-on false t u v p q = λ e. let x = p e in let y = q (x .0) in (y .0, y .1 ∙ x .1)
+
+stay-priority : (b : Bool) (t u : TaskControl) → Stay b t u → t .occupied ≡ true → u .occupied ≡ true → u .priority ≡ t .priority
+stay-priority true t u s o p = s p .1
+stay-priority false t u s o p = s o .1
+
+slot-stays : {g : Kind} (t u : TaskControl) → SlotChange g t u → Stay (reaps g) t u
+slot-stays {g} t u (by c) = stay (reaps g) t u (task-kept c .occupied) (task-kept c .priority)
+slot-stays t u (counted n) = λ o. (o, refl)
+slot-stays t u (new a p r e) = λ o. clash o e
+slot-stays t u (cleared e) = λ o. clash o refl
+slot-stays t u run-first = λ o. (o, refl)
+slot-stays t u run-next = λ o. (reloaded-kept t .0 ∙ o, reloaded-kept t .1)
+
+pub priority-kept : {g : Kind} {k k′ : Kernel} → Changes g k k′ → (j : ℕ) → slot k j .occupied ≡ true → slot k′ j .occupied ≡ true → slot k′ j .priority ≡ slot k j .priority
+priority-kept {g} cs j = stay-priority (reaps g) _ _ (each-kept (Stay (reaps g)) (λ t. stay (reaps g) t t refl refl) (stay-on (reaps g)) slot-stays cs j)
+
+-- ---- calls that give no turn and no tick
+
+pub record Kept (k k′ : Kernel) : Type 0 where
+  pub stay : current k′ ≡ current k
+  pub on : k′ .started ≡ k .started
+  pub charges : k′ .charges ≡ k .charges
+
+change-kept : {g : Kind} → IsOther g → (k k′ : Kernel) → Change g k k′ → Kept k k′
+unfolding Scheduler.add
+change-kept x k k′ (task i u h c) = record { stay = refl; on = refl; charges = refl }
+change-kept x k k′ (sweep f e h) = absurd x
+change-kept x k k′ clock = absurd x
+change-kept x k k′ (permits s n q h c) = record { stay = refl; on = refl; charges = refl }
+change-kept x k k′ (flag v n q h c) = record { stay = refl; on = refl; charges = refl }
+change-kept x k k′ (handoff m h q l c) = record { stay = refl; on = refl; charges = refl }
+change-kept x k k′ (owner m l from to h q r d c) = record { stay = refl; on = refl; charges = refl }
+change-kept x k k′ (added p r free region) = record { stay = refl; on = refl; charges = refl }
+change-kept x k k′ (reaped i h idle running on) = record { stay = refl; on = refl; charges = refl }
+change-kept x k k′ (begun y h o) = absurd x
+change-kept x k k′ (turned y h o) = absurd x
+
+pub kept : {g : Kind} {k k′ : Kernel} → IsOther g → Changes g k k′ → Kept k k′
+kept x = fold Kept (λ _. record { stay = refl; on = refl; charges = refl }) (λ _ _ _ p q. record { stay = q .stay ∙ p .stay; on = q .on ∙ p .on; charges = q .charges ∙ p .charges }) (change-kept x)
+
+-- u runs only if t does, and has no more ticks left
+abbrev pub NoLonger : TaskControl → TaskControl → Type 0
+NoLonger t u = runs u ≡ true → (runs t ≡ true) × (u .«remaining_slice» ≤ t .«remaining_slice»)
+
+slot-no-longer : {g : Kind} → IsOther g → (t u : TaskControl) → SlotChange g t u → NoLonger t u
+slot-no-longer x t u (by c) = λ e. (task-kept c .running e, task-kept c .remaining x)
+slot-no-longer x t u (counted n) = λ e. (e, le-refl _)
+slot-no-longer x t u (new a p r o) = λ e. clash e refl
+slot-no-longer x t u (cleared o) = λ e. clash e refl
+slot-no-longer x t u run-first = absurd x
+slot-no-longer x t u run-next = absurd x
+
+pub no-longer : {g : Kind} {k k′ : Kernel} → IsOther g → Changes g k k′ → (j : ℕ) → NoLonger (slot k j) (slot k′ j)
+no-longer x = each-kept NoLonger (λ _ e. (e, le-refl _)) (λ _ _ _ p q e. let y = q e in let z = p (y .0) in (z .0, le-trans (y .1) (z .1))) (slot-no-longer x)

@@ -1,0 +1,95 @@
+-- The book's third sentence, clause by clause, in 01's words; and the same for any rank that the pick goes by in place of the priority number.
+use mathlib.Core.Path.{_≡_}
+use mathlib.Core.Bool.{true}
+use mathlib.Core.List.{List, [], _∷_, _++_}
+use mathlib.Core.Logic.{_⊎_, _≢_}
+use Prim.Native.Nat.{ℕ, _-_, _≤_, _<_}
+use lib.Dec.{eqb}
+use Rattle.base.specs.Choice.{if_then_else_}
+use Rattle.kernel.specs.declared.control.TaskId.{TaskId}
+use Rattle.kernel.specs.declared.control.TaskState.the-variants.{Ready, Running}
+use Rattle.kernel.specs.declared.scheduler.Kernel.{Kernel}
+use Rattle.kernel.specs.Kernel.{slot, charge, current}
+use Rattle.kernel.specs.Scheduler.{pick, isReady, priorityOf, nextTask, dispatched, reloaded, saveContext}
+use Rattle.kernel.specs.Calls.{init, initNumber}
+use Rattle.book_guarantees.specs.Lists.{Entry, after, Each, EachNext, Returned, end, turn, tick, outcome, AcceptedSwitch, turns, ticksWhile, sum}
+
+-- ---- the words of the sentence; `one` is the call that gives the first turn, `between` the calls after it and before the second
+
+-- slot j holds the task of id a, Ready or Running
+pub record Holds (j : ℕ) (a : TaskId) (k : Kernel) : Type 0 where
+  pub present : slot k j .occupied ≡ true
+  pub named : slot k j .id ≡ a
+  pub state : (slot k j .state ≡ Ready) ⊎ (slot k j .state ≡ Running)
+
+-- "A task stays Ready or Running if it is so, under one id, after the first turn and after each call between"
+abbrev pub Stays : ℕ → TaskId → Entry → List Entry → Type 0
+Stays j a one between = Each (λ e. Holds j a (after e)) (one ∷ between)
+
+-- "a rise is what those calls add to a charge"; that they take nothing from it is part of `Fair`
+abbrev pub rise : ℕ → Entry → List Entry → ℕ
+rise j one between = charge (end (after one) between) j - charge (after one) j
+
+-- `rank k j` is what slot j's task goes by in kernel k, smaller is better: its priority number, or any other rank.
+module _ (rank : Kernel → ℕ → ℕ) where
+  -- "Let a task stay Ready or Running between two neighbouring turns of its own. Let no task with a smaller priority number have a turn between, and let
+  -- each tick between that wants a switch be followed next by an accepted switch": task a of slot i, from turn `one` to turn `two`. A picked
+  -- task's rank is read after its turn, the first task's after the first turn.
+  pub record Stretch (i : ℕ) (a : TaskId) (one : Entry) (between : List Entry) (two : Entry) : Type 0 where
+    pub first-turn : outcome one ≡ turn i
+    pub second-turn : outcome two ≡ turn i
+    pub neighbouring : Each (λ e. outcome e ≢ turn i) between
+    pub stays : Stays i a one between
+    pub none-smaller : Each (λ e. (s : ℕ) → outcome e ≡ turn s → rank (after one) i ≤ rank (after e) s) between
+    pub followed : EachNext (λ e f. outcome e ≡ tick true → AcceptedSwitch f) (between ++ two ∷ [])
+
+  -- "every other task of equal priority that stayed Ready or Running too": task b of slot j, its rank read after the first turn
+  pub record Peer (i : ℕ) (one : Entry) (between : List Entry) (j : ℕ) (b : TaskId) : Type 0 where
+    pub another : j ≢ i
+    pub equal : rank (after one) j ≡ rank (after one) i
+    pub stayed : Stays j b one between
+
+  -- slot j has the same rank after the first turn and after each call between
+  abbrev pub Unchanging : ℕ → Entry → List Entry → Type 0
+  Unchanging j one between = Each (λ e. rank (after e) j ≡ rank (after one) j) between
+
+-- n j is what is counted of slot j: at most 5 of a peer's slot, at most 5 of the first task's, i, and at most 75 of all other slots together. `Peers j b` says
+-- that task b of slot j is a peer.
+pub record Bounded (Peers : ℕ → TaskId → Type 0) (i : ℕ) (n : ℕ → ℕ) : Type 0 where
+  pub peers : (j : ℕ) (b : TaskId) → Peers j b → n j ≤ 5
+  pub own : n i ≤ 5
+  pub others : sum (λ j. if eqb j i then 0 else n j) 16 ≤ 75
+
+-- "has exactly one turn between, and the charge of its slot rises by at most 5. In every such stretch the charge of the first task's slot also rises by at
+-- most 5, and those of all other slots together by at most 75"; and the same of the accepted ticks made while a slot was current
+pub record Fair (Peers : ℕ → TaskId → Type 0) (i : ℕ) (one : Entry) (between : List Entry) : Type 0 where
+  pub one-turn : (j : ℕ) (b : TaskId) → Peers j b → turns j between ≡ 1
+  pub ticks : Bounded Peers i (λ j. ticksWhile j (after one) between)
+  pub charges : Bounded Peers i (λ j. rise j one between)
+  pub no-fall : (j : ℕ) → charge (after one) j ≤ charge (end (after one) between) j
+
+-- ---- the sentence
+
+-- "every list of kernel calls from a fresh kernel, refused ones included, whatever words the arena holds at each call", and every two calls of it
+abbrev pub InEveryList : (Entry → List Entry → Entry → Type 0) → Type 0
+InEveryList P =
+    (hz words : ℕ) → initNumber hz words ≡ 0
+    → (before between rest : List Entry) (one two : Entry) → Returned (init hz words .kernel) (before ++ one ∷ (between ++ two ∷ rest))
+    → P one between two
+
+abbrev pub TurnGuarantee : Type 0
+TurnGuarantee = InEveryList (λ one between two. (i : ℕ) (a : TaskId) → Stretch priorityOf i a one between two → Fair (Peer priorityOf i one between) i one between)
+
+-- ---- the same for another rank
+
+-- the pick goes by it, and neither saving the context nor running the picked task alters it
+pub record PickedBy (rank : Kernel → ℕ → ℕ) : Type 0 where
+  pub picks : (k : Kernel) → nextTask k ≡ pick (isReady k) (rank k) (current k)
+  pub saved : (sp : ℕ) (k : Kernel) (j : ℕ) → j < 16 → rank (saveContext sp k) j ≡ rank k j
+  pub run : (k : Kernel) (s : ℕ) → s < 16 → isReady k s ≡ true → rank (dispatched s reloaded k) s ≡ rank k s
+
+-- of tasks with equal, unchanging rank, where the pick goes by it: the ranks of the first task and of its peer are one number after the first turn and after each
+-- call between.
+abbrev pub TurnGuaranteeBy : (Kernel → ℕ → ℕ) → Type 0
+TurnGuaranteeBy rank = PickedBy rank → InEveryList (λ one between two. (i : ℕ) (a : TaskId) → Stretch rank i a one between two → Unchanging rank i one between
+    → Fair (λ j b. Peer rank i one between j b × Unchanging rank j one between) i one between)

@@ -1,0 +1,47 @@
+// Release of a semaphore: synchronization/semaphore.rs of the source.
+use kernel::scheduler::Answer;
+use kernel::scheduler::Kernel;
+use kernel::semaphore::Semaphore;
+use leaf_table::internal::answer;
+ghost use mathlib.Core.Path.{_≡_};
+ghost use Prim.Native.Nat.{_<_};
+ghost use Rattle.kernel.specs.Kernel.{semaphore, whole};
+ghost use Rattle.kernel.specs.Calls.{release, number, effect, step};
+
+pub mod internal;
+
+// 19 count 2^32 - 1.
+fn release_number(k: Kernel, is_whole: bool, s: usize) -> u8
+    requires { ⌜ «is_whole» ≡ whole k ⌝ }
+    ensures { λ r. ⌜ r ≡ number k (release s) ⌝ }
+{
+    if !is_whole {
+        return 1;
+    }
+    if Kernel::OBJECTS <= s {
+        return 20;
+    }
+    let x = k.semaphores[s];
+    answer::refuse_if(x.count == u32::MAX, 19, 0)
+}
+
+fn released(k: Kernel, s: usize) -> Kernel
+    requires { ⌜ (s < 4) × (semaphore k s .count < 4294967295) ⌝ }
+    ensures { λ r. ⌜ r ≡ effect k (release s) ⌝ }
+{
+    let x = k.semaphores[s];
+    let q = x.waiters;
+    let waiters = leaf_queue::popped(q);
+    let count = x.count + 1;
+    let next = Semaphore { count, waiters };
+    let mut woken = leaf_table::internal::wake_head(k, q);
+    woken.semaphores[s] = next;
+    woken
+}
+
+// Count up, then the head of the queue is dropped and woken; yes where there was one. Refused: 1, 20 and 19.
+pub fn release(k: Kernel, s: usize) -> Answer
+    ensures { λ r. ⌜ r ≡ step k (release s) ⌝ }
+{
+    internal::release(k, false, s)
+}

@@ -1,0 +1,20 @@
+-- `started` meets its contract, by those of `next_task` and `with_state`.
+use Rattle.kernel.specs.Scheduler
+use Rattle.kernel.specs.Calls.{value, effect}
+use borrow.Author.Needs.{needs}
+use Rattle.call_start.proofs.started.Statement.{statement}
+use Rattle.call_start.proofs.started.Tie as tie
+
+pub started-spec : {M : Type 1} → statement M
+unfolding value effect Scheduler.start
+started-spec =
+    tie.close
+    (tie.spec
+    (λ c κs. search needs)
+    (λ c. search needs)
+    (λ c. search needs)
+    (λ c κs. search needs)
+    (λ c. search needs)
+    (λ c. search needs)
+    (λ c κs. search needs)
+    (λ c. rw (c .accepted .ensures, c .before .with-state .ensures, ← c .before .before .before .next-task .ensures .0)))

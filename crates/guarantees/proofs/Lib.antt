@@ -1,6 +1,0 @@
-pub mod Ring
-pub mod Fairness
-pub mod BestFirst
-pub mod Kept
-pub mod Invariant
-pub mod TurnGuarantee

@@ -1,0 +1,191 @@
+-- Every accepted call is made of the changes of its kind.
+use Prim.Native.Nat.{ℕ, _+_, _-_, _<_}
+use native.Mathlib.Omega.{arith}
+use mathlib.Core.Path.{_≡_, refl, sym, subst, _∙_}
+use native.Mathlib.Decide.{decLt}
+use mathlib.Core.Bool.{Bool, true, false, _&&_, not}
+use mathlib.Core.List.{List}
+use lib.Dec.{eqb, leb, ltb}
+use lib.ListN.{length, getD, set, length-set, List·getD-eq-default}
+use lib.Seq.{getD-set-same}
+use borrow.Author.Tests.{ltb-true, leb-true, eqb-false, not-true}
+use Rattle.base.proofs.Choices.{not-clear, and-left, and-right, either}
+use Rattle.base.proofs.Loops.{lowest-is, set-each}
+use Rattle.kernel.specs.Types.{OptionTaskId, None, Some, TaskId, TaskState, Ready, Running, Blocked, Terminated, TaskControl, WaitQueue, Mutex, Kernel}
+use Rattle.kernel.specs.Update.{withTasks}
+use Rattle.kernel.specs.Control.{stateNumber, inState, stateOf, holdsTask, unblocked, blankSlot}
+use Rattle.kernel.specs.WaitQueue.{isEmpty, head, popped}
+use Rattle.kernel.specs.Kernel.{slot, at, current, currentTask, currentId, slotOf, isPresent, atId, mutex, semaphore, event, withMutex}
+use Rattle.kernel.specs.Scheduler.{slotAfter, isBest, distance, pick, isReady, priorityOf, nextTask, wakeTick, wakeWaiter, terminated, wakeHead, reapableSlot, ownedUp, ownedDown, isDue, woken, spent, advanced, currentRuns, sliced, contextSaved, saveContext}
+use Rattle.kernel.specs.Scheduler
+use Rattle.kernel.specs.Mutex
+use Rattle.kernel.specs.Mutex.{ownsMutex, isHanded}
+use Rattle.kernel.specs.Semaphore
+use Rattle.kernel.specs.Semaphore.{hasPermit}
+use Rattle.kernel.specs.Event
+use Rattle.kernel.specs.Calls.{Call, add, start, tick, switch, current-id, status, block, sleep, wake, exit, wait, reap, reap-one, result, lock, try-lock, unlock, acquire, try-acquire, release, event-wait, signal, list, number, effect, Kind, kind, plain, owning, switching, ticking, reaping}
+use Rattle.kernel.proofs.Pick.{pick-lt}
+use Rattle.kernel.proofs.Tasks.{found-occupied, blank-woken}
+use Rattle.kernel.proofs.Whole.{Whole}
+use Rattle.kernel.proofs.Accepted.{accepted-is, accepted-at, accepted-object, add-accepted, reap-accepted, wait-found, start-off, status-not-running}
+use Rattle.kernel.proofs.Changes.{TaskChange, same, state, asleep, ended, waiter, answered, less, full, saved, QueueChange, still, joined, left, Hand, taken, freed, passed, raised, lowered, moved-tasks, task, sweep, clock, permits, flag, handoff, owner, added, reaped, begun, turned, Changes, none, _then_}
+
+-- ---- changes of a task
+
+not-running : (s : ℕ) → eqb s 1 ≡ false → eqb (stateNumber (stateOf s)) 1 ≡ false
+unfolding stateOf
+not-running s n = either is (eqb s 0) (λ _. refl) (λ _. either is (eqb s 1) (λ e. sym e ∙ n) (λ _. either is (eqb s 2) (λ _. refl) (λ _. either is (eqb s 3) (λ _. refl) (λ _. either is (eqb s 4) (λ _. refl) (λ _. refl)))))
+  where
+    is : TaskState → Type 0
+    is x = eqb (stateNumber x) 1 ≡ false
+
+unblocks : {g : Kind} (t : TaskControl) → TaskChange g t (unblocked t)
+unfolding unblocked
+unblocks {g} t = either (TaskChange g t) (inState Blocked t) (λ _. state Ready refl) (λ _. same)
+
+wakes : (now : ℕ) (t : TaskControl) → TaskChange ticking t (woken now t)
+unfolding woken
+wakes now t = either (TaskChange ticking t) (isDue now t) (λ _. state Ready refl) (λ _. same)
+
+spends : (t : TaskControl) → TaskChange ticking t (spent t)
+spends t = either (TaskChange ticking t) (eqb (t .«remaining_slice» - 1) 0) (λ _. full) (λ _. less _ (omega arith))
+
+-- ---- and of a kernel
+
+at-current : {g : Kind} {k : Kernel} (f : TaskControl → TaskControl) → ((t : TaskControl) → TaskChange g t (f t)) → Whole k → Changes g k (at (current k) f k)
+at-current {k = k} f h w = none then task (current k) _ (w .current-slot) (h (currentTask k))
+
+blocks : {g : Kind} {k : Kernel} → Whole k → Changes g k (Scheduler.block k)
+blocks w = at-current _ (λ _. state Blocked refl) w
+
+block-id : (k : Kernel) → currentId (Scheduler.block k) ≡ currentId k
+block-id k = set-each (λ j u. u .id ≡ slot k j .id) blankSlot (k .tasks) (current k) _ refl (λ _. refl) (current k)
+
+at-id : {g : Kind} {k₀ k : Kernel} (a : TaskId) (f : TaskControl → TaskControl) → ((t : TaskControl) → TaskChange g t (f t)) → Changes g k₀ k → Changes g k₀ (atId a f k)
+unfolding atId
+at-id {g} {k₀} {k} a f h cs = either (Changes g k₀) (isPresent k a) (λ e. cs then task (slotOf k a) _ (ltb-true _ _ e) (h (slot k (slotOf k a)))) (λ _. cs)
+
+wake-waiter : {g : Kind} {k₀ k : Kernel} (a : OptionTaskId) → Changes g k₀ k → Changes g k₀ (wakeWaiter a k)
+wake-waiter None cs = cs
+wake-waiter (Some a) cs = at-id a unblocked unblocks cs
+
+wake-head : {g : Kind} {k : Kernel} (q : WaitQueue) → Changes g k (wakeHead q k)
+wake-head {g} {k} q = either (Changes g k) (isEmpty q) (λ _. none) (λ _. at-id (head q) unblocked unblocks none)
+
+owns : {k : Kernel} (m : ℕ) (l : Bool) (from to h : OptionTaskId) (q : WaitQueue) → m < 4 → Hand k m l from to → QueueChange (currentId k) (mutex k m .waiters) q → Changes owning k (withMutex m (record { locked = l; owner = to; «handoff_to» = h; waiters = q }) (raised to (lowered from k)))
+owns {k} m l from to h q i o c = subst (λ (x : Kernel). Changes owning k (withMutex m (record { locked = l; owner = to; «handoff_to» = h; waiters = q }) x)) (moved-tasks from to k) (none then owner m l from to h q i o c)
+
+-- a mutex stands beside the tasks
+wake-beside : {k₀ : Kernel} (k : Kernel) (a : TaskId) (m : ℕ) (x : Mutex) → Changes owning k₀ (withMutex m x k) → Changes owning k₀ (withMutex m x (Scheduler.wake a k))
+unfolding atId
+wake-beside {k₀} k a m x cs = either (λ k′. Changes owning k₀ (withMutex m x k′)) (isPresent k a) (λ e. cs then task (slotOf k a) _ (ltb-true _ _ e) (unblocks (slot k (slotOf k a)))) (λ _. cs)
+
+-- and so does what is read of the objects
+id-beside : {A : Type 0} (f : Kernel → A) (a : TaskId) (h : TaskControl → TaskControl) (k : Kernel) → ((l : List TaskControl) → f (withTasks l k) ≡ f k) → f (atId a h k) ≡ f k
+unfolding atId
+id-beside f a h k e = either (λ k′. f k′ ≡ f k) (isPresent k a) (λ _. e _) (λ _. refl)
+
+head-beside : {A : Type 0} (f : Kernel → A) (q : WaitQueue) (k : Kernel) → ((l : List TaskControl) → f (withTasks l k) ≡ f k) → f (wakeHead q k) ≡ f k
+head-beside f q k e = either (λ k′. f k′ ≡ f k) (isEmpty q) (λ _. refl) (λ _. id-beside f (head q) unblocked k e)
+
+-- ---- what the pick and the reap find
+
+pick-occupied : (k : Kernel) → slot k 0 .occupied ≡ true → slot k (nextTask k) .occupied ≡ true
+unfolding pick isBest holdsTask
+pick-occupied k idle =
+    either (λ i. slot k i .occupied ≡ true) (ltb (distance (isReady k) (priorityOf k) (current k)) 16)
+    (λ e. and-left _ _ (and-left _ _ (lowest-is (λ n. isBest (isReady k) (priorityOf k) (slotAfter (current k) n)) 16 (ltb-true _ _ e))))
+    (λ _. idle)
+
+saved-occupied : (sp : ℕ) (t : TaskControl) → contextSaved sp t .occupied ≡ t .occupied
+unfolding contextSaved
+saved-occupied sp t = either (λ (u : TaskControl). u .occupied ≡ t .occupied) (inState Running t) (λ _. refl) (λ _. refl)
+
+idle-saved : (sp : ℕ) (k : Kernel) → Whole k → slot (saveContext sp k) 0 .occupied ≡ true
+idle-saved sp k w = set-each (λ j u. u .occupied ≡ slot k j .occupied) blankSlot (k .tasks) (current k) _ (saved-occupied sp (currentTask k)) (λ _. refl) 0 ∙ w .idle
+
+saved-rests : (sp : ℕ) (t : TaskControl) → inState Running (contextSaved sp t) ≡ false
+unfolding contextSaved
+saved-rests sp t = either (λ (u : TaskControl). inState Running u ≡ false) (inState Running t) (λ _. refl) (λ e. e)
+
+set-rests : (l : List TaskControl) (i : ℕ) (u : TaskControl) → inState Running u ≡ false → inState Running (getD (set l i u) i blankSlot) ≡ false
+set-rests l i u e =
+    elim (decLt i (length l)) [
+      | yes h ↦ rw (getD-set-same l i u blankSlot h) e
+      | no h ↦ rw (List·getD-eq-default (set l i u) blankSlot {n = i} (omega (arith, length-set l i u)))
+    ]
+
+reap-found : (k : Kernel) → reapableSlot k < 16 → Changes reaping k (Scheduler.emptied (reapableSlot k) k)
+unfolding reapableSlot
+reap-found k h =
+    let x = reapableSlot k in
+    let c = lowest-is (λ i. leb 1 i && not (eqb i (current k)) && holdsTask Terminated (slot k i)) 16 h in
+    let apart-idle = leb-true 1 x (and-left _ _ (and-left _ _ c)) in
+    let apart-current = eqb-false x (current k) (not-true _ (and-right (leb 1 x) _ (and-left _ _ c))) in
+    none then reaped x h (λ q. omega arith) (λ q. apart-current (sym q)) (and-right (leb 1 x && not (eqb x (current k))) _ c)
+
+-- ---- the calls of more than one line
+
+ticked : (k : Kernel) → Whole k → Changes ticking k (Scheduler.tick k)
+unfolding Scheduler.tick sliced advanced
+ticked k w =
+    let cs = none then sweep (woken (k .«tick_count» + 1)) (blank-woken _) (wakes _) then clock in
+    either (Changes ticking k) (k .started && currentRuns (advanced k)) (λ _. cs then task (current k) _ (w .current-slot) (spends _)) (λ _. cs)
+
+switched : (k : Kernel) (sp : ℕ) → Whole k → Changes switching k (Scheduler.switch sp k)
+unfolding Scheduler.switch
+switched k sp w =
+    let rests = set-rests (k .tasks) (current k) _ (saved-rests sp (currentTask k)) in
+    at-current (contextSaved sp) (λ _. saved sp) w then turned rests (pick-lt _ _ _) (pick-occupied (saveContext sp k) (idle-saved sp k w))
+
+locked : (k : Kernel) (m : ℕ) → m < 4 → Whole k → Changes owning k (Mutex.lock m k)
+unfolding Mutex.lock
+locked k m h w =
+    either (Changes owning k) (not (mutex k m .locked)) (λ e. owns m true None (Some (currentId k)) _ _ h (taken (not-true _ e)) still)
+    (λ _. either (Changes owning k) (ownsMutex k m && isHanded k m) (λ _. none then handoff m None _ h still) (λ _. blocks w then handoff {k = Scheduler.block k} m _ _ h (rw (block-id k) joined)))
+
+unlocked : (k : Kernel) (m : ℕ) → m < 4 → ownsMutex k m ≡ true → Changes owning k (Mutex.unlock m k)
+unfolding Mutex.unlock
+unlocked k m h o =
+    let a = currentId k in
+    let kept : mutex k m ≡ mutex (ownedDown a k) m = sym (id-beside (λ k′. mutex k′ m) a _ k (λ _. refl)) in
+    either (Changes owning k) (isEmpty (mutex k m .waiters))
+    (λ _. subst (λ (x : Mutex). Changes owning k (withMutex m (record { locked = false; owner = None; «handoff_to» = None; waiters = x .waiters }) (ownedDown a k))) kept (owns m false (Some a) None None _ h (freed o) still))
+    (λ _. subst (λ (x : Mutex). Changes owning k (withMutex m (record { locked = true; owner = Some (head (x .waiters)); «handoff_to» = Some (head (x .waiters)); waiters = popped (x .waiters) }) (Scheduler.wake (head (x .waiters)) (ownedUp (head (x .waiters)) (ownedDown a k))))) kept
+    (wake-beside _ (head (mutex k m .waiters)) m _ (owns m true (Some a) (Some (head (mutex k m .waiters))) (Some (head (mutex k m .waiters))) _ h (passed o) left)))
+
+-- ---- every call
+
+pub made-of : (k : Kernel) (c : Call) → number k c ≡ 0 → Changes (kind c) k (effect k c)
+unfolding effect Scheduler.start Scheduler.exit Scheduler.wait Scheduler.reapOne Mutex.tryLock Semaphore.acquire Semaphore.tryAcquire Semaphore.release Event.eventWait Event.signal holdsTask
+made-of k (add arena p r) e = let a = add-accepted k arena p r e in none then added p r (a .free) (a .region)
+made-of k start e = none then begun (start-off k e) (pick-lt _ _ _) (pick-occupied k (accepted-is k start e .idle))
+made-of k tick e = ticked k (accepted-is k tick e)
+made-of k (switch arena sp) e = switched k sp (accepted-is k (switch arena sp) e)
+made-of k current-id e = none
+made-of k (status s) e = at-current _ (λ _. state (stateOf s) (not-running s (status-not-running k s e))) (accepted-is k (status s) e)
+made-of k block e = blocks (accepted-is k block e)
+made-of k (sleep ticks) e = at-current _ (λ _. asleep (wakeTick ticks k)) (accepted-is k (sleep ticks) e)
+made-of k (wake a) e = at-id a unblocked unblocks none
+made-of k exit e = wake-waiter (currentTask k .waiter) (at-current terminated (λ _. ended) (accepted-is k exit e))
+made-of k (wait a) e =
+    either (Changes plain k) (inState Terminated (slot k (slotOf k a))) (λ _. none)
+    (λ _. none then task (slotOf k a) _ (wait-found k a e) (waiter (Some (currentId k))) then task (current k) _ (accepted-is k (wait a) e .current-slot) (state Blocked refl))
+made-of k (reap a) e =
+    let r = reap-accepted k a e in
+    none then reaped {k = k} (slotOf k a) (r .found) (λ q. r .idle (sym q)) (λ q. r .running (sym q)) (rw (found-occupied k a (r .found)) (r .ended))
+made-of k reap-one e = either (Changes reaping k) (ltb (reapableSlot k) 16) (λ h. reap-found k (ltb-true _ _ h)) (λ _. none)
+made-of k (result a r) e = at-id a _ (λ _. answered r) none
+made-of k (lock m) e = locked k m (accepted-object k (lock m) m _ e refl) (accepted-is k (lock m) e)
+made-of k (try-lock m) e = either (Changes owning k) (mutex k m .locked) (λ _. none) (λ f. owns m true None (Some (currentId k)) None _ (accepted-object k (try-lock m) m _ e refl) (taken f) still)
+made-of k (unlock m) e = unlocked k m (accepted-object k (unlock m) m _ e refl) (not-clear _ (accepted-at k (unlock m) 2 refl e))
+made-of k (acquire s) e =
+    let h = accepted-object k (acquire s) s _ e refl in
+    either (Changes plain k) (hasPermit s k) (λ _. none then permits s _ _ h still) (λ _. blocks (accepted-is k (acquire s) e) then permits {k = Scheduler.block k} s _ _ h (rw (block-id k) joined))
+made-of k (try-acquire s) e = either (Changes plain k) (hasPermit s k) (λ _. none then permits s _ _ (accepted-object k (try-acquire s) s _ e refl) still) (λ _. none)
+made-of k (release s) e = let q = semaphore k s .waiters in wake-head q then permits {k = wakeHead q k} s _ (popped q) (accepted-object k (release s) s _ e refl) (rw (head-beside (λ k′. semaphore k′ s) q k (λ _. refl)) left)
+made-of k (event-wait v) e =
+    let h = accepted-object k (event-wait v) v _ e refl in
+    either (Changes plain k) (event k v .signaled) (λ _. none then flag v _ _ h still) (λ _. blocks (accepted-is k (event-wait v) e) then flag {k = Scheduler.block k} v _ _ h (rw (block-id k) joined))
+made-of k (signal v) e = let q = event k v .waiters in wake-head q then flag {k = wakeHead q k} v _ (popped q) (accepted-object k (signal v) v _ e refl) (rw (head-beside (λ k′. event k′ v) q k (λ _. refl)) left)
+made-of k (list arena records) e = none

@@ -1,0 +1,2 @@
+// What the calls are made of. No calls.
+pub mod internal;

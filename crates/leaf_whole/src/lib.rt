@@ -1,0 +1,2 @@
+// Whether a kernel is whole, which every call asks first.
+pub mod internal;

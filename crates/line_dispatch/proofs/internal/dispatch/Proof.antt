@@ -1,0 +1,162 @@
+-- `dispatch` meets its contract: an arm for each operation, by the contract of its call.
+use mathlib.Core.Path.{refl}
+use Rattle.line_dispatch.specs.Dispatch.{answerTo, wordsAfter}
+use borrow.Author.Needs.{needs}
+use Rattle.line_dispatch.proofs.internal.dispatch.Statement.{statement}
+use Rattle.line_dispatch.proofs.internal.dispatch.Tie as tie
+
+returns : tie.Need-returns
+unfolding answerTo wordsAfter
+returns c = rw (c .before .enum-told .given .1) (c .refused .ensures, refl)
+
+returns-2 : tie.Need-returns-2
+unfolding answerTo wordsAfter
+returns-2 c = rw (c .before .before .before .before .before .before .enum-told2 .given .1) (c .before .before .add-task .ensures)
+
+returns-3 : tie.Need-returns-3
+unfolding answerTo wordsAfter
+returns-3 c = rw (c .before .enum-told3 .given .1) (c .start .ensures, refl)
+
+returns-4 : tie.Need-returns-4
+unfolding answerTo wordsAfter
+returns-4 c = rw (c .before .enum-told4 .given .1) (c .update-tick .ensures, refl)
+
+returns-5 : tie.Need-returns-5
+unfolding answerTo wordsAfter
+returns-5 c = rw (c .before .before .enum-told5 .given .1) (c .switch .ensures, refl)
+
+returns-6 : tie.Need-returns-6
+unfolding answerTo wordsAfter
+returns-6 c = rw (c .before .enum-told6 .given .1) (c .exit-current-task .ensures, refl)
+
+returns-7 : tie.Need-returns-7
+unfolding answerTo wordsAfter
+returns-7 c = rw (c .before .enum-told7 .given .1) (c .wait-task .ensures, refl)
+
+returns-8 : tie.Need-returns-8
+unfolding answerTo wordsAfter
+returns-8 c = rw (c .before .enum-told8 .given .1) (c .reap-task .ensures, refl)
+
+returns-9 : tie.Need-returns-9
+unfolding answerTo wordsAfter
+returns-9 c = rw (c .before .before .enum-told9 .given .1) (rw (← c .before .ms-to-ticks .ensures) (c .current-task-sleep-ticks .ensures), refl)
+
+returns-10 : tie.Need-returns-10
+unfolding answerTo wordsAfter
+returns-10 c = rw (c .before .enum-told10 .given .1) (c .wake-task .ensures, refl)
+
+returns-11 : tie.Need-returns-11
+unfolding answerTo wordsAfter
+returns-11 c = rw (c .before .enum-told11 .given .1) (c .lock .ensures, refl)
+
+returns-12 : tie.Need-returns-12
+unfolding answerTo wordsAfter
+returns-12 c = rw (c .before .enum-told12 .given .1) (c .unlock .ensures, refl)
+
+returns-13 : tie.Need-returns-13
+unfolding answerTo wordsAfter
+returns-13 c = rw (c .before .enum-told13 .given .1) (c .try-lock .ensures, refl)
+
+returns-14 : tie.Need-returns-14
+unfolding answerTo wordsAfter
+returns-14 c = rw (c .before .enum-told14 .given .1) (c .acquire .ensures, refl)
+
+returns-15 : tie.Need-returns-15
+unfolding answerTo wordsAfter
+returns-15 c = rw (c .before .enum-told15 .given .1) (c .try-acquire .ensures, refl)
+
+returns-16 : tie.Need-returns-16
+unfolding answerTo wordsAfter
+returns-16 c = rw (c .before .enum-told16 .given .1) (c .release .ensures, refl)
+
+returns-17 : tie.Need-returns-17
+unfolding answerTo wordsAfter
+returns-17 c = rw (c .before .enum-told17 .given .1) (c .wait .ensures, refl)
+
+returns-18 : tie.Need-returns-18
+unfolding answerTo wordsAfter
+returns-18 c = rw (c .before .enum-told18 .given .1) (c .signal .ensures, refl)
+
+returns-19 : tie.Need-returns-19
+unfolding answerTo wordsAfter
+returns-19 c = rw (c .before .enum-told19 .given .1) (c .set-current-task-status .ensures, refl)
+
+returns-20 : tie.Need-returns-20
+unfolding answerTo wordsAfter
+returns-20 c = rw (c .before .enum-told20 .given .1) (c .block-current-task .ensures, refl)
+
+returns-21 : tie.Need-returns-21
+unfolding answerTo wordsAfter
+returns-21 c = rw (c .before .enum-told21 .given .1) (c .reap-one .ensures, refl)
+
+pub dispatch-spec : {M : Type 1} → statement M
+dispatch-spec =
+    tie.close
+    (tie.spec
+    (λ c. search needs)
+    (λ c. search needs)
+    (λ c κs. search needs)
+    (λ c. search needs)
+    (λ c κs. search needs)
+    (λ c. search needs)
+    (λ c κs. search needs)
+    (λ c. search needs)
+    (λ c κs. search needs)
+    (λ c. search needs)
+    (λ c κs. search needs)
+    (λ c. search needs)
+    (λ c κs. search needs)
+    (λ c. search needs)
+    (λ c κs. search needs)
+    (λ c. search needs)
+    (λ c κs. search needs)
+    (λ c. search needs)
+    (λ c κs. search needs)
+    (λ c κs. search needs)
+    (λ c. search needs)
+    (λ c κs. search needs)
+    (λ c. search needs)
+    (λ c κs. search needs)
+    (λ c. search needs)
+    (λ c κs. search needs)
+    (λ c. search needs)
+    (λ c κs. search needs)
+    (λ c. search needs)
+    (λ c κs. search needs)
+    (λ c. search needs)
+    (λ c κs. search needs)
+    (λ c. search needs)
+    (λ c κs. search needs)
+    (λ c. search needs)
+    (λ c κs. search needs)
+    (λ c. search needs)
+    (λ c κs. search needs)
+    (λ c. search needs)
+    (λ c κs. search needs)
+    (λ c. search needs)
+    (λ c κs. search needs)
+    (λ c. search needs)
+    (λ c κs. search needs)
+    returns
+    (λ c. search needs)
+    returns-2
+    returns-3
+    returns-4
+    (λ c. search needs)
+    returns-5
+    returns-6
+    returns-7
+    returns-8
+    returns-9
+    returns-10
+    returns-11
+    returns-12
+    returns-13
+    returns-14
+    returns-15
+    returns-16
+    returns-17
+    returns-18
+    returns-19
+    returns-20
+    returns-21)

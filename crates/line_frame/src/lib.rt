@@ -1,0 +1,214 @@
+// A line of the notation of `turns`, and the frame that it writes: operation, k and y.
+ghost use mathlib.Core.Path.{_≡_};
+ghost use mathlib.Core.Bool.{true};
+ghost use Prim.Native.Nat.{_+_, _*_, _<_};
+ghost use Rattle.line_frame.specs.Frame.{emptyLine, digit, byteOf, byteAt, isHex, operationOf, usesK, usesY, yOf, operandsFit, malformed, frameOf};
+
+// The operations in the order of their numbers; 0x00 and those past 0x14 are unknown.
+pub enum Operation {
+    Unknown,
+    Add,
+    Start,
+    Tick,
+    Switch,
+    Exit,
+    Wait,
+    Reap,
+    Sleep,
+    Wake,
+    Lock,
+    Unlock,
+    TryLock,
+    Acquire,
+    TryAcquire,
+    Release,
+    EventWait,
+    Signal,
+    Status,
+    Block,
+    ReapOne,
+}
+
+pub struct Frame {
+    pub operation: Operation,
+    pub k: u8,
+    pub y: u32,
+}
+
+// A line so far: its first twelve bytes, and how many there are; 13 stands for more than twelve.
+pub struct Line {
+    pub bytes: [u8; Line::ROOM],
+    pub len: usize,
+}
+
+// How many digits there are; it stands for none of them.
+const DIGITS: u32 = 16;
+
+// A letter's byte less its digit.
+const LETTERS: u8 = b'a' - 10;
+
+// How many bytes there are; it stands for none of them.
+const BYTES: u32 = 256;
+
+fn digit(b: u8) -> u32
+    ensures { λ r. ⌜ r ≡ digit b ⌝ }
+{
+    if (b'0' <= b) & (b <= b'9') {
+        return (b - b'0') as u32;
+    }
+    if (b'a' <= b) & (b <= b'f') {
+        return (b - LETTERS) as u32;
+    }
+    DIGITS
+}
+
+fn byte_of(high: u8, low: u8) -> u32
+    ensures { λ r. ⌜ r ≡ byteOf high low ⌝ }
+{
+    let h = digit(high);
+    let l = digit(low);
+    if (h < DIGITS) & (l < DIGITS) {
+        return DIGITS * h + l;
+    }
+    BYTES
+}
+
+fn operation_of(n: u32) -> Operation
+    ensures { λ r. ⌜ r ≡ operationOf n ⌝ }
+{
+    match n {
+        1 => Operation::Add,
+        2 => Operation::Start,
+        3 => Operation::Tick,
+        4 => Operation::Switch,
+        5 => Operation::Exit,
+        6 => Operation::Wait,
+        7 => Operation::Reap,
+        8 => Operation::Sleep,
+        9 => Operation::Wake,
+        10 => Operation::Lock,
+        11 => Operation::Unlock,
+        12 => Operation::TryLock,
+        13 => Operation::Acquire,
+        14 => Operation::TryAcquire,
+        15 => Operation::Release,
+        16 => Operation::EventWait,
+        17 => Operation::Signal,
+        18 => Operation::Status,
+        19 => Operation::Block,
+        20 => Operation::ReapOne,
+        _ => Operation::Unknown,
+    }
+}
+
+fn uses_k(operation: u32) -> bool
+    ensures { λ r. ⌜ r ≡ usesK operation ⌝ }
+{
+    (operation == 1) | ((10 <= operation) & (operation <= 18))
+}
+
+fn uses_y(operation: u32) -> bool
+    ensures { λ r. ⌜ r ≡ usesY operation ⌝ }
+{
+    (operation == 1) | (operation == 4) | ((6 <= operation) & (operation <= 9))
+}
+
+// Whether each operand that the operation does not use is 0.
+fn operands_fit(operation: u32, k: u32, y: u32) -> bool
+    ensures { λ r. ⌜ r ≡ operandsFit operation k y ⌝ }
+{
+    (uses_k(operation) | (k == 0)) & (uses_y(operation) | (y == 0))
+}
+
+fn word(a: u32, b: u32, c: u32, d: u32) -> u32
+    requires { ⌜ (a < 256) × (b < 256) × (c < 256) × (d < 256) ⌝ }
+    ensures { λ r. ⌜ r ≡ ((a * 256 + b) * 256 + c) * 256 + d ⌝ }
+{
+    ((a * BYTES + b) * BYTES + c) * BYTES + d
+}
+
+fn framed(operation: u32, k: u32, y: u32) -> Frame
+    requires { ⌜ k < 256 ⌝ }
+    ensures { λ r. ⌜ r ≡ record { operation = operationOf operation; k = k; y = y } ⌝ }
+{
+    let operation = operation_of(operation);
+    Frame {
+        operation,
+        k: k as u8,
+        y,
+    }
+}
+
+impl Frame {
+    pub fn malformed() -> Self
+        ensures { λ r. ⌜ r ≡ malformed ⌝ }
+    {
+        let operation = Operation::Unknown;
+        Frame {
+            operation,
+            k: 0,
+            y: 0,
+        }
+    }
+}
+
+impl Line {
+    pub const ROOM: usize = 12;
+    // The length that stands for any above.
+    pub const TOO_LONG: usize = 13;
+
+    pub fn empty() -> Self
+        ensures { λ r. ⌜ r ≡ emptyLine ⌝ }
+    {
+        Line {
+            bytes: [0; Line::ROOM],
+            len: 0,
+        }
+    }
+
+    fn byte_at(self, i: usize) -> u32
+        requires { ⌜ i < 6 ⌝ }
+        ensures { λ r. ⌜ r ≡ byteAt self i ⌝ }
+    {
+        byte_of(self.bytes[2 * i], self.bytes[2 * i + 1])
+    }
+
+    fn is_hex(self) -> bool
+        ensures { λ r. ⌜ r ≡ isHex self ⌝ }
+    {
+        (self.len == Line::ROOM)
+            & (self.byte_at(0) < BYTES)
+            & (self.byte_at(1) < BYTES)
+            & (self.byte_at(2) < BYTES)
+            & (self.byte_at(3) < BYTES)
+            & (self.byte_at(4) < BYTES)
+            & (self.byte_at(5) < BYTES)
+    }
+
+    fn y(self) -> u32
+        requires { ⌜ isHex self ≡ true ⌝ }
+        ensures { λ r. ⌜ r ≡ yOf self ⌝ }
+    {
+        word(
+            self.byte_at(2),
+            self.byte_at(3),
+            self.byte_at(4),
+            self.byte_at(5),
+        )
+    }
+
+    pub fn frame(self) -> Frame
+        ensures { λ r. ⌜ r ≡ frameOf self ⌝ }
+    {
+        if !self.is_hex() {
+            return Frame::malformed();
+        }
+        let operation = self.byte_at(0);
+        let k = self.byte_at(1);
+        let y = self.y();
+        if !operands_fit(operation, k, y) {
+            return Frame::malformed();
+        }
+        framed(operation, k, y)
+    }
+}

@@ -1,0 +1,85 @@
+-- What the programs `turns` and `tables` make of their input, byte by byte (01, "Program `turns`").
+use Prim.Native.Nat.{ℕ}
+use mathlib.Core.Path.{_≡_}
+use mathlib.Core.Bool.{Bool}
+use mathlib.Core.List.{List, [], _∷_, _++_}
+use lib.Dec.{eqb}
+use lib.ListN.{replicate}
+use Rattle.base.specs.Choice.{if_then_else_}
+use Rattle.kernel.specs.declared.scheduler.Answer.{Answer}
+use Rattle.kernel.specs.Calls.{init, initWords}
+use Rattle.line_frame.specs.Frame.{emptyLine, lengthened, frameOf}
+use Rattle.line_text.specs.Text.{Writes}
+use Rattle.line_dispatch.specs.Dispatch.{answerTo, wordsAfter}
+use Rattle.line_answer.specs.AnswerLine.{answerLine}
+use Rattle.line_table.specs.TableLine.{tableLine}
+use Rattle.line_session.specs.declared.Session.{Session}
+use Rattle.line_session.specs.declared.Played.{Played}
+
+-- the session before any input: hz 1000 and an arena of that many words; the blank kernel where `init` refuses so many
+abbrev pub opened : ℕ → Session
+opened words = record { kernel = init 1000 words .kernel; line = emptyLine }
+
+-- ---- a line
+
+-- the answer to the line so far
+abbrev pub answerOf : Session → List ℕ → Answer
+answerOf s arena = answerTo (s .kernel) arena (frameOf (s .line))
+
+-- the answer's line; `tables` adds the table's
+unfoldable pub reply : Bool → Answer → List ℕ
+reply tables a = answerLine a ++ (if tables then tableLine (a .kernel) else [])
+
+-- no reply is longer: 13 for the answer, 7,200 for the table
+abbrev pub replyRoom : Bool → ℕ
+replyRoom tables = if tables then 7213 else 13
+
+-- ---- a byte: a line feed ends the line, any other lengthens it
+
+unfoldable pub fed : Session → List ℕ → ℕ → Session
+fed s arena b =
+    if eqb b 10 then record { kernel = answerOf s arena .kernel; line = emptyLine }
+    else record { kernel = s .kernel; line = lengthened (s .line) b }
+
+unfoldable pub fedArena : Session → List ℕ → ℕ → List ℕ
+fedArena s arena b = if eqb b 10 then wordsAfter (s .kernel) arena (frameOf (s .line)) else arena
+
+unfoldable pub said : Bool → Session → List ℕ → ℕ → List ℕ
+said tables s arena b = if eqb b 10 then reply tables (answerOf s arena) else []
+
+-- ---- bytes
+
+-- the session after them
+unfoldable pub after : Session → List ℕ → List ℕ → Session
+after s arena [] = s
+after s arena (b ∷ bs) = after (fed s arena b) (fedArena s arena b) bs
+
+-- the arena's words after them
+unfoldable pub afterArena : Session → List ℕ → List ℕ → List ℕ
+afterArena s arena [] = arena
+afterArena s arena (b ∷ bs) = afterArena (fed s arena b) (fedArena s arena b) bs
+
+-- what is written meanwhile
+unfoldable pub replies : Bool → Session → List ℕ → List ℕ → List ℕ
+replies tables s arena [] = []
+replies tables s arena (b ∷ bs) = said tables s arena b ++ replies tables (fed s arena b) (fedArena s arena b) bs
+
+-- playing those bytes does all that: the session, the arena's words, and the replies at the start of what is lent for them
+pub record Plays (tables : Bool) (s : Session) (arena bytes arena′ out out′ : List ℕ) (p : Played) : Type 0 where
+  pub session : p .session ≡ after s arena bytes
+  pub words : arena′ ≡ afterArena s arena bytes
+  pub written : Writes out 0 (replies tables s arena bytes) out′ (p .len)
+
+-- ---- the whole input
+
+-- a rest without a line feed is a line if it is not empty
+abbrev pub rest : Session → List ℕ
+rest s = if eqb (s .line .len) 0 then [] else 10 ∷ []
+
+-- all that a program prints: 4,096 words, the input, and what its end adds
+unfoldable pub printed : Bool → List ℕ → List ℕ
+printed tables input =
+    let s = opened 4096 in
+    let arena = initWords 1000 (replicate 4096 0) in
+    let s′ = after s arena input in
+    replies tables s arena input ++ replies tables s′ (afterArena s arena input) (rest s′)

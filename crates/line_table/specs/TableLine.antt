@@ -1,0 +1,57 @@
+-- The line that `tables` prints for a kernel: the whole table in decimal.
+use Prim.Native.Nat.{ℕ, suc}
+use mathlib.Core.Bool.{true}
+use mathlib.Core.List.{List, [], _∷_, _++_}
+use lib.IntN.{ℤ, pos, negsuc}
+use Rattle.kernel.specs.declared.control.TaskControl.{TaskControl}
+use Rattle.kernel.specs.declared.scheduler.Kernel.{Kernel}
+use Rattle.kernel.specs.Control.{stateNumber}
+use Rattle.kernel.specs.Kernel.{slot, charge, current, mutex, semaphore, event}
+use Rattle.line_text.specs.Text.{decimal}
+use Rattle.line_objects.specs.ObjectsLine.{joined, comma, flag, idText, bar, mutexText, semaphoreText, eventText, objectsText}
+
+-- ---- pieces
+
+-- a comma and the number
+abbrev pub field : ℕ → List ℕ
+field n = comma ++ decimal n
+
+-- with a minus below 0
+unfoldable pub signed : ℤ → List ℕ
+signed (pos n) = decimal n
+signed (negsuc n) = 45 ∷ decimal (suc n)
+
+-- ---- slots
+
+-- slot, id, state, priority, wake_tick, time_slice, remaining_slice, owned, waiter, start, size, sp, result
+unfoldable pub slotText : ℕ → TaskControl → List ℕ
+slotText i t =
+    decimal i ++ field (t .id .0) ++ field (stateNumber (t .state)) ++ field (t .priority .0)
+    ++ field (t .«wake_tick») ++ field (t .«time_slice») ++ field (t .«remaining_slice») ++ field (t .«owned_mutex_count»)
+    ++ comma ++ idText (t .waiter) ++ field (t .stack .start) ++ field (t .stack .size) ++ field (t .sp)
+    ++ comma ++ signed (t .result)
+
+-- the occupied slots, joined by `;`
+unfoldable pub slotsText : Kernel → List ℕ
+slotsText k = joined 59 (λ i. slot k i .occupied) (λ i. slotText i (slot k i)) 16
+
+-- ---- the rest of the scheduler
+
+-- tick_count, started, current, task_count, next_id
+unfoldable pub schedulerText : Kernel → List ℕ
+schedulerText k = decimal (k .«tick_count») ++ comma ++ flag (k .started) ++ field (current k) ++ field (k .«task_count») ++ field (k .«next_id»)
+
+-- ---- charges
+
+unfoldable pub chargesText : Kernel → List ℕ
+chargesText k = joined 44 (λ i. true) (λ i. decimal (charge k i)) 16
+
+-- ---- the line
+
+unfoldable pub tableLine : Kernel → List ℕ
+tableLine k =
+    slotsText k ++ bar ++ schedulerText k
+    ++ bar ++ objectsText (λ i. mutexText (mutex k i))
+    ++ bar ++ objectsText (λ i. semaphoreText (semaphore k i))
+    ++ bar ++ objectsText (λ i. eventText (event k i))
+    ++ bar ++ chargesText k ++ (10 ∷ [])
