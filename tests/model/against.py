@@ -9,25 +9,25 @@ sys.dont_write_bytecode = True
 import model
 
 
-def main():
-    if len(sys.argv) < 3 or sys.argv[1] not in ("turns", "tables"):
-        sys.exit(__doc__)
-    mode, program = sys.argv[1], sys.argv[2:]
-    lists = [part for part in sys.stdin.buffer.read().split(b"new\n") if part]
+def compare(lists, mode, program):
+    """Stops with status 1 at the first list on which they differ."""
     calls = 0
     for data in lists:
-        want = []
+        want, given = [], model.lines_of(data)
         model.run(data, mode == "tables", want)
         got = subprocess.run(program, input=data, capture_output=True)
         if got.stdout != "".join(want).encode() or got.returncode != 0:
-            calls, lines = data.split(b"\n"), got.stdout.decode(errors="replace").splitlines(True)
+            lines = got.stdout.decode(errors="replace").splitlines(True)
             first = next((n for n, w in enumerate(want) if lines[n:n + 1] != [w]), len(want))
             print(f"differs, status {got.returncode}, after the last of these calls:")
-            print(b"\n".join(calls[:first // (2 if mode == "tables" else 1) + 1]).decode(errors="replace"))
+            print(b"\n".join(given[:first // (2 if mode == "tables" else 1) + 1]).decode(errors="replace"))
             print("model:   " + "".join(want[first:first + 1]) + "program: " + "".join(lines[first:first + 1]), end="")
             sys.exit(1)
-        calls += data.count(b"\n")
+        calls += len(given)
     print(f"{len(lists)} lists, {calls} calls: equal")
 
 
-main()
+if __name__ == "__main__":
+    if len(sys.argv) < 3 or sys.argv[1] not in ("turns", "tables"):
+        sys.exit(__doc__)
+    compare([part for part in sys.stdin.buffer.read().split(b"new\n") if part], sys.argv[1], sys.argv[2:])

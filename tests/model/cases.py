@@ -1,153 +1,375 @@
-"""Directed lists with answers worked out by hand from document 01: example, traps, exam cases, refusals. Each is held against the
-model and, where a line is in the compared domain, against the Rust.
+"""The cases of tests/cases: lists from fresh with answers worked out by hand from documents 01 and 04. Each is held against the
+model and, where a call is in the compared domain, against the Rust; of other lines the reference has to say 01's number.
 
-  cases.py [DIR]    with DIR, also writes each list and its answers as DIR/NAME.in and DIR/NAME.out"""
-import os, subprocess, sys
+  cases.py [DIR]    with DIR, also writes each list and what is printed for it: DIR/NAME.in and DIR/NAME.out for `turns`,
+                    DIR/tables/NAME.in and DIR/tables/NAME.out for `tables`
+  REFERENCE         the program that tests/differential/build makes; default target/differential/reference"""
+import os
+import subprocess
+import sys
+
 sys.dont_write_bytecode = True
 import model
 
-# the program that tests/differential/build makes
-R = os.environ.get("REFERENCE", "target/differential/reference")
-DIR = sys.argv[1] if len(sys.argv) > 1 else None
+REFERENCE = os.environ.get("REFERENCE", "target/differential/reference")
+README = os.path.join(os.path.dirname(os.path.abspath(__file__)), "..", "cases", "README.md")
+CASES = []
 
-def add(i, prio, size=64): return f"01{prio:02x}{(8192 + size * i) << 16 | size:08x}"
-def sw(i, size=64): return f"0400{8192 + size * (i + 1) - 4:08x}"
-IDLE = "040000001ffc"
-START, TICK, EXIT = "020000000000", "030000000000", "050000000000"
-def op(o, k=0, y=0): return f"{o:02x}{k:02x}{y:08x}"
 
-def in_domain(line, answer):
-    """Whether the Rust is asked: 01's compared domain has no number but 0, 4, 8, 9 and wait's 7."""
-    number = int(answer[:2], 16)
-    return number in (0, 4, 8, 9) or number == 7 and line[:2] == "06"
+def turns(name, shows, *calls):
+    """A case: its name, what it shows and from where, and each call with its answer."""
+    CASES.append(("turns", name, shows, calls))
 
-def run(name, pairs, outside=None, kept=True):
-    """pairs: (line, wanted answer or None). outside: a last line that is refused with that number, as the reference must say too.
-    kept: whether it is written."""
-    lines = [l for l, _ in pairs] + ([outside[0]] if outside else [])
-    answers = []
-    model.run("\n".join(lines).encode(), False, answers)
-    answers = [a.rstrip("\n") for a in answers]
-    for at, (line, want) in enumerate(pairs):
-        assert want is None or answers[at] == want, (name, at, line, answers[at], want)
-    if outside: assert answers[-1][:10] == ans(outside[1], 0, 0)[:10], (name, answers[-1])
-    asked = [l for l, a in zip(lines, answers) if in_domain(l, a)]
-    data = "".join(l + "\n" for l in asked + ([outside[0]] if outside else []))
-    p = subprocess.run([R, "replay"], input=data.encode(), capture_output=True)
-    got = p.stdout.decode().splitlines()
-    if outside:
-        assert got.pop() == "outside" and p.returncode == 3, (name, got)
-        assert f"number {outside[1]:02x})" in p.stderr.decode(), (name, p.stderr)
-    else:
-        assert p.returncode == 0, (name, p.stderr)
+
+def tables(name, shows, *calls):
+    """The same for `tables`. A call may have the table after it too."""
+    CASES.append(("tables", name, shows, calls))
+
+
+# Calls. Regions of one size lie one after the other behind idle's, counted from 0; sp is a region's last word.
+def line(op, k=0, y=0): return f"{op:02x}{k:02x}{y:08x}"
+def add(region, priority, size=64): return line(0x01, priority, (8192 + size * region) << 16 | size)
+def switch(region, size=64): return line(0x04, 0, 8192 + size * (region + 1) - 4)
+def word(at, what): return line(0x1e, what, at)
+def records(lent): return line(0x1b, lent)
+IDLE = line(0x04, 0, 8188)
+START, TICK, EXIT, BLOCK, REAP_ONE, CURRENT_ID = (line(op) for op in (0x02, 0x03, 0x05, 0x13, 0x14, 0x1c))
+WAIT, REAP, SLEEP, WAKE = ((lambda y, op=op: line(op, 0, y)) for op in (0x06, 0x07, 0x08, 0x09))
+LOCK, UNLOCK, TRY_LOCK, ACQUIRE, TRY_ACQUIRE, RELEASE, EVENT_WAIT, SIGNAL = ((lambda k, op=op: line(op, k)) for op in range(0x0a, 0x12))
+def status(k): return line(0x12, k)
+def result(id, k): return line(0x1d, k, id)
+def fresh(hz): return line(0x1f, 0, hz)
+
+
+# Answers: accepted, with what list appends; refused.
+def ok(value, current, listed=""): return f"00{value:08x}{current:02x}{listed and ' ' + listed}"
+def no(number, current): return f"{number:02x}00000000{current:02x}"
+NONE = 0xffffffff
+
+
+def added(*priorities, size=64):
+    """Tasks added one after the other before the start: ids from 1 on."""
+    return [(add(at, priority, size), ok(at + 1, 0)) for at, priority in enumerate(priorities)]
+
+
+def table(slots, scheduler, mutexes=" ".join(["0,-,-,[];"] * 4), semaphores=" ".join(["0,[];"] * 4), events=" ".join(["0,[];"] * 4),
+          charges="0"):
+    """The line of `tables`; charges of the first slots, the others being 0."""
+    charges = charges.split(",")
+    return " | ".join([";".join(slots), scheduler, mutexes, semaphores, events, ",".join(charges + ["0"] * (16 - len(charges)))])
+
+
+def eight_queued(call):
+    """Tasks 1 to 8 make the call and are queued; task 4 makes it again, then task 9."""
+    return [*added(*[128] * 10), (START, ok(1, 1)),
+            *[pair for at in range(1, 9) for pair in ((call, ok(0, at)), (switch(at - 1), ok(at + 1, at + 1)))],
+            (WAKE(4), ok(0, 9)), (BLOCK, ok(0, 9)), (switch(8), ok(10, 10)), (BLOCK, ok(0, 10)), (switch(9), ok(4, 4)),
+            (call, ok(0, 4)), (WAKE(9), ok(0, 4)), (switch(3), ok(9, 9)), (call, no(12, 9))]
+
+
+UNTOUCHED = "0,0,0,255,0,1,1,0,-,0,8192,8192,0"     # idle, Ready, as fresh makes it
+FRESH = table([UNTOUCHED], "0,0,0,1,1")
+
+
+# 01's example and the exam's cases
+
+turns("example", "Document 01's example, as printed there (01, Beside the lock call)",
+      ("018020000400", "000000000100"), ("018024000400", "000000000200"), ("020000000000", "000000000101"),
+      ("030000000000", "000000000001"), ("040000002400", "100000000001"), ("0400000023c0", "000000000202"))
+
+turns("sixteenth-task", "The sixteenth task, idle counted, is added; a seventeenth is 4, and 4 comes before 5 (01, Exam cases; 03, 1)",
+      *added(*[128] * 15), ("018028000040", no(4, 0)), ("018028010003", no(4, 0)))
+
+turns("smallest-region", "Size 12 is refused, 16 accepted (01, Exam cases)",
+      ("01802000000c", no(5, 0)), ("018020000010", ok(1, 0)))
+
+turns("pick-among-equals", "Slots 3 and 4 Ready at 128, current 3: 4 (01, Exam cases)",
+      *added(200, 200, 128, 128), (START, ok(3, 3)), (switch(2), ok(4, 4)))
+
+turns("pick-past-the-last-slot", "Slots 3 and 15 at 7, current 15: 3 (01, Exam cases)",
+      *added(200, 200, 7, *[200] * 11, 7, size=16), (START, ok(3, 3)), (switch(2, 16), ok(15, 15)), (switch(14, 16), ok(3, 3)))
+
+turns("pick-by-priority", "Slot 2 at 9, slot 5 at 8, current 1: 5 (01, Exam cases)",
+      (add(0, 200), ok(1, 0)), (START, ok(1, 1)), (add(1, 9), ok(2, 1)), (add(2, 200), ok(3, 1)), (add(3, 200), ok(4, 1)),
+      (add(4, 8), ok(5, 1)), (switch(0), ok(5, 5)))
+
+turns("pick-none-ready", "Idle alone Ready: 0; none Ready, slot 0 Blocked: 0 (01, Exam cases)",
+      (START, ok(0, 0)), (IDLE, ok(0, 0)), (BLOCK, ok(0, 0)), (IDLE, ok(0, 0)))
+
+turns("slice-ends", "The fifth tick of a turn wants a switch, and the slice is full again (01, Exam cases)",
+      *added(128), (START, ok(1, 1)), *[(TICK, ok(0, 1))] * 4, (TICK, ok(1, 1)), (switch(0), ok(1, 1)),
+      *[(TICK, ok(0, 1))] * 4, (TICK, ok(1, 1)))
+
+turns("sleep-zero", "Sleep 0 at tick 7: Ready at tick 8 (01, Exam cases, Traps)",
+      *added(128), (START, ok(1, 1)), *[(TICK, ok(0, 1))] * 4, (TICK, ok(1, 1)), *[(TICK, ok(0, 1))] * 2,
+      (SLEEP(0), ok(0, 1)), (switch(0), ok(0, 0)), (TICK, ok(1, 0)), (IDLE, ok(1, 1)))
+
+turns("eight-queued-mutex", "Eight queued: one of them locks again, a ninth is 12 (01, Exam cases)",
+      *added(*[128] * 11), (START, ok(1, 1)), (LOCK(0), ok(1, 1)), (switch(0), ok(2, 2)),
+      *[pair for at in range(2, 10) for pair in ((LOCK(0), ok(0, at)), (switch(at - 1), ok(at + 1, at + 1)))],
+      (WAKE(4), ok(0, 10)), (BLOCK, ok(0, 10)), (switch(9), ok(11, 11)), (BLOCK, ok(0, 11)), (switch(10), ok(1, 1)),
+      (BLOCK, ok(0, 1)), (switch(0), ok(4, 4)), (LOCK(0), ok(0, 4)), (WAKE(10), ok(0, 4)), (switch(3), ok(10, 10)),
+      (LOCK(0), no(12, 10)))
+
+turns("eight-queued-semaphore", "The same with acquire (01, Exam cases)", *eight_queued(ACQUIRE(0)))
+
+turns("eight-queued-event", "The same with event wait (01, Exam cases)", *eight_queued(EVENT_WAIT(0)))
+
+# 01's traps
+
+turns("no-memory-per-priority", "The better task runs and sleeps, and A is picked again, though B waited (01, Traps)",
+      *added(200, 8, 128, 128), (START, ok(2, 2)), (SLEEP(1), ok(0, 2)), (switch(1), ok(3, 3)), (TICK, ok(1, 3)),
+      (switch(2), ok(2, 2)), (SLEEP(5), ok(0, 2)), (switch(1), ok(3, 3)))
+
+turns("ids-are-no-slots", "Slot 1 holds id 2 after a reap; idle is slot 0, and current is a slot (01, Traps)",
+      *added(128), (START, ok(1, 1)), (EXIT, ok(0, 1)), (REAP_ONE, ok(NONE, 1)), (REAP(1), no(9, 1)), (switch(0), ok(0, 0)),
+      (REAP_ONE, ok(0x2000, 0)), (REAP_ONE, ok(NONE, 0)), (add(0, 9), ok(2, 0)), (IDLE, ok(1, 1)), (REAP(0), no(9, 1)),
+      (REAP(2), no(9, 1)), (REAP(1), no(8, 1)))
+
+turns("idle-does-not-exit", "Exit in slot 0 is 10 (01, Traps)",
+      (START, ok(0, 0)), (EXIT, no(10, 0)))
+
+turns("lost-signal", "The popped task was not Blocked: the signal is not kept, and the next event wait blocks (01, Traps)",
+      *added(128, 128), (START, ok(1, 1)), (EVENT_WAIT(0), ok(0, 1)), (WAKE(1), ok(0, 1)), (SIGNAL(0), ok(1, 1)),
+      (EVENT_WAIT(0), ok(0, 1)))
+
+turns("reaped-waiter", "The id of a recorded waiter that has been reaped still gives 9 (01, Traps)",
+      *added(128, 128, 128), (START, ok(1, 1)), (WAIT(2), ok(0, 1)), (WAKE(1), ok(0, 1)), (EXIT, ok(0, 1)), (switch(0), ok(2, 2)),
+      (REAP(1), ok(0x2000, 2)), (SLEEP(1), ok(0, 2)), (switch(1), ok(3, 3)), (WAIT(2), no(9, 3)), (WAIT(3), no(7, 3)),
+      (WAIT(1), no(8, 3)), (WAIT(0), ok(0, 3)))
+
+# Mutexes and waiters
+
+turns("handoff-taken-up", "A mutex handed on is taken up by the new owner's lock; its second lock is 13 (01, mutex.rs)",
+      *added(128, 128), (START, ok(1, 1)), (LOCK(0), ok(1, 1)), (switch(0), ok(2, 2)), (LOCK(0), ok(0, 2)), (switch(1), ok(1, 1)),
+      (UNLOCK(0), ok(1, 1)), (TRY_LOCK(0), ok(0, 1)), (switch(0), ok(2, 2)), (LOCK(0), ok(1, 2)), (LOCK(0), no(13, 2)))
+
+turns("handoff-not-taken-up", "A mutex handed on can be unlocked at once; once more is 14 (01, mutex.rs)",
+      *added(128, 128), (START, ok(1, 1)), (LOCK(0), ok(1, 1)), (switch(0), ok(2, 2)), (LOCK(0), ok(0, 2)), (switch(1), ok(1, 1)),
+      (UNLOCK(0), ok(1, 1)), (switch(0), ok(2, 2)), (UNLOCK(0), ok(0, 2)), (UNLOCK(0), no(14, 2)))
+
+turns("exit-wakes-waiter", "Exit wakes the waiter; status Ready revives, and exit with a mutex is then 11 (01, state calls; 03, 12)",
+      *added(128, 128), (START, ok(1, 1)), (WAIT(2), ok(0, 1)), (WAIT(2), ok(0, 1)), (switch(0), ok(2, 2)), (EXIT, ok(0, 2)),
+      (status(0), ok(0, 2)), (LOCK(0), ok(1, 2)), (switch(1), ok(1, 1)), (switch(0), ok(2, 2)), (EXIT, no(11, 2)))
+
+# Refusals
+
+turns("accepted-before-the-start",
+      "Tick, wake, reap, try acquire, release and signal are not in the row of 2; acquire is (01, Where a call is turned back; 03, 2)",
+      (TICK, ok(0, 0)), (WAKE(7), ok(0, 0)), (REAP(7), no(8, 0)), (REAP(0), no(9, 0)), (REAP_ONE, ok(NONE, 0)), (TRY_ACQUIRE(0), ok(0, 0)),
+      (RELEASE(0), ok(0, 0)), (TRY_ACQUIRE(0), ok(1, 0)), (SIGNAL(0), ok(0, 0)), (ACQUIRE(0), no(2, 0)))
+
+turns("refused-before-the-start", "2 comes before a call's own checks, 20 before 2 (01, Where a call is turned back; 03, 1)",
+      *[(call, no(2, 0)) for call in (status(0), status(1), BLOCK, SLEEP(0), EXIT, WAIT(0), WAIT(9), IDLE, line(0x04),
+                                      LOCK(0), UNLOCK(0), TRY_LOCK(0), ACQUIRE(0), EVENT_WAIT(0))],
+      *[(line(op, 4), no(20, 0)) for op in range(0x0a, 0x12)])
+
+turns("refused-after-the-start", "A second start is 3; no object is above 3 (01, Where a call is turned back)",
+      (START, ok(0, 0)), (START, no(3, 0)), *[(line(op, 255), no(20, 0)) for op in range(0x0a, 0x12)])
+
+turns("idle-with-a-mutex", "10 comes before 11 (01, Where a call is turned back; 03, 1)",
+      (START, ok(0, 0)), (LOCK(0), ok(1, 0)), (EXIT, no(10, 0)))
+
+turns("regions",
+      "5: no multiples of 4, short, past the arena, overlapping; touching regions are accepted (01, Where a call is turned back)",
+      *[(call, no(5, 0)) for call in ("018020020010", "018020000012", "018020000000", "018000000010", "01801ff00014", "01803ffc0010",
+                                      "0180fffc0010", "01802000fffc")],
+      ("018020000010", ok(1, 0)), ("018020100010", ok(2, 0)), ("0180200c0010", no(5, 0)), ("01803ff00010", ok(3, 0)))
+
+turns("status", "7: Running, Terminated, above 5; the other states are set (01, Where a call is turned back)",
+      *added(9), (START, ok(1, 1)), *[(status(k), no(7, 1)) for k in (1, 5, 6, 255)], *[(status(k), ok(0, 1)) for k in (4, 0, 3, 2)])
+
+turns("no-call", "ff: any other length or byte, an unknown operation, an unused operand above 0 (01, Beside the lock call; 03, 13)",
+      *[(call, no(255, 0)) for call in ("", "0", "000000000000", "150000000000", "ff0000000000", "030000000001", "020100000000",
+                                        "0a0000000001", "060100000000", "03000000000", "0300000000000", "0A0000000000")],
+      (START, ok(0, 0)), ("0A0000000000", no(255, 0)), ("0a0000000000", ok(1, 0)))
+
+turns("no-call-of-tables", "The operations that `tables` alone has are ff (04, first paragraph)",
+      *[(call, no(255, 0)) for call in (records(1), CURRENT_ID, result(0, 1), word(0, 0), fresh(1000))], *added(128), (START, ok(1, 1)),
+      *[(call, no(255, 1)) for call in (records(2), CURRENT_ID, result(1, 255), word(2048, 0), fresh(1))], (switch(0), ok(1, 1)))
+
+# The notation of `tables`
+
+tables("example", "Document 04's example as far as its operations are there; the others are ff (04, lines)",
+       ("018020000400", "000000000100"), ("1c0000000000", "020000000000"), ("020000000000", "000000000101"),
+       ("030000000000", "000000000001"),
+       *[(call, no(255, 1)) for call in ("170000000001", "190200000000", "150000000005", "1a0200000000", "1a0300000000")])
+
+tables("table-line", "Document 04's table, the first six segments as printed there; the event wait has no limit (04, the table line)",
+       ("018020000200", ok(1, 0)), ("010722000200", ok(2, 0)), (START, ok(2, 2)),
+       (EVENT_WAIT(0), ok(0, 2),
+        "0,0,0,255,0,1,1,0,-,0,8192,8192,0;1,1,0,128,0,5,5,0,-,8192,512,8704,0;2,2,2,7,0,5,5,0,-,8704,512,9216,0 | 0,1,2,3,3 | "
+        "0,-,-,[]; 0,-,-,[]; 0,-,-,[]; 0,-,-,[]; | 0,[]; 0,[]; 0,[]; 0,[]; | 0,[2]; 0,[]; 0,[]; 0,[]; | 0,0,0,0,0,0,0,0,0,0,0,0,0,0,0,0"))
+
+tables("table-of-objects", "Owners, a handoff, queues, counts, a waiter and a charge in the table (04, the table line)",
+       *added(9, 9, 9), (START, ok(1, 1)), (LOCK(0), ok(1, 1)), (LOCK(1), ok(1, 1)), (switch(0), ok(2, 2)), (LOCK(0), ok(0, 2)),
+       (switch(1), ok(3, 3)), (LOCK(0), ok(0, 3)), (ACQUIRE(2), ok(0, 3)),
+       (EVENT_WAIT(3), ok(0, 3),
+        table([UNTOUCHED, "1,1,0,9,0,5,5,2,-,8192,64,8252,0", "2,2,2,9,0,5,5,0,-,8256,64,8316,0", "3,3,2,9,0,5,5,0,-,8320,64,8384,0"],
+              "0,1,3,4,4", "1,1,-,[2 3]; 1,1,-,[]; 0,-,-,[]; 0,-,-,[];", "0,[]; 0,[]; 0,[3]; 0,[];", "0,[]; 0,[]; 0,[]; 0,[3];")),
+       (switch(2), ok(1, 1)), (TICK, ok(0, 1)), (RELEASE(0), ok(0, 1)), (SIGNAL(1), ok(0, 1)), (UNLOCK(0), ok(1, 1)),
+       (WAIT(2), ok(0, 1),
+        table([UNTOUCHED, "1,1,2,9,0,5,4,1,-,8192,64,8252,0", "2,2,0,9,0,5,5,1,1,8256,64,8316,0", "3,3,2,9,0,5,5,0,-,8320,64,8380,0"],
+              "1,1,1,4,4", "1,2,2,[3]; 1,1,-,[]; 0,-,-,[]; 0,-,-,[];", "1,[]; 0,[]; 0,[3]; 0,[];", "0,[]; 1,[]; 0,[]; 0,[3];", "0,1")))
+
+tables("no-call", "ff: operands out of range or unused, operations that are not there, lines that are none; each has its table (04, lines)",
+       *[(call, no(255, 0), FRESH) for call in (
+           "1b0000000001", "1b0100000001", "1c0100000000", "1c0000000001", "1e0200000000", "1eff00000000", "1e0000001000", "1e01ffffffff",
+           "1f0100000000", "1f0100000001", *[line(op) for op in range(0x15, 0x1b)], "150000000005", "160000000005", "170000000001",
+           "180000000001", "190100000000", "1a0100000000", "200000000000", "800000000000", "ff0000000000", "000000000000", "030000000001",
+           "", "1b01", "1c000000000", "1c00000000000", "1B0100000000", "1c0000000000 ")],
+       (START, ok(0, 0)), ("1e0200000000", no(255, 0), table(["0,0,1,255,0,1,1,0,-,0,8192,8192,0"], "0,1,0,1,1")),
+       (records(1), ok(1, 0, "0,1,255,0,8192")))
+
+# Current id and result
+
+tables("current-id", "2 before the start; then the id of the task in slot current, which is not the slot (01, state calls; 04)",
+       (CURRENT_ID, no(2, 0)), *added(128), (CURRENT_ID, no(2, 0)), (START, ok(1, 1)), (CURRENT_ID, ok(1, 1)), (EXIT, ok(0, 1)),
+       (CURRENT_ID, ok(1, 1)), (switch(0), ok(0, 0)), (CURRENT_ID, ok(0, 0)), (REAP(1), ok(0x2000, 0)), (add(0, 9), ok(2, 0)),
+       (IDLE, ok(1, 1)),
+       (CURRENT_ID, ok(2, 1), table(["0,0,0,255,0,1,1,0,-,0,8192,8188,0", "1,2,1,9,0,5,5,0,-,8192,64,8256,0"], "0,1,1,2,3")))
+
+tables("result", "Results from -128 to 127, before the start and of a Terminated task too; an unknown id is 8 (01, state calls; 04)",
+       (result(0, 0x7f), ok(0, 0), table(["0,0,0,255,0,1,1,0,-,0,8192,8192,127"], "0,0,0,1,1")), (result(1, 1), no(8, 0)), *added(128),
+       (result(1, 0x80), ok(0, 0), table(["0,0,0,255,0,1,1,0,-,0,8192,8192,127", "1,1,0,128,0,5,5,0,-,8192,64,8256,-128"], "0,0,0,2,2")),
+       (result(0, 0), ok(0, 0)), (result(1, 0xff), ok(0, 0), table([UNTOUCHED, "1,1,0,128,0,5,5,0,-,8192,64,8256,-1"], "0,0,0,2,2")),
+       (result(1, 1), ok(0, 0), table([UNTOUCHED, "1,1,0,128,0,5,5,0,-,8192,64,8256,1"], "0,0,0,2,2")),
+       (result(2, 5), no(8, 0)), (result(NONE, 5), no(8, 0), table([UNTOUCHED, "1,1,0,128,0,5,5,0,-,8192,64,8256,1"], "0,0,0,2,2")),
+       (START, ok(1, 1)), (EXIT, ok(0, 1)),
+       (result(1, 0xd6), ok(0, 1), table([UNTOUCHED, "1,1,5,128,0,5,0,0,-,8192,64,8256,-42"], "0,1,1,2,2")),
+       (switch(0), ok(0, 0)), (REAP(1), ok(0x2000, 0)), (result(1, 1), no(8, 0)))
+
+# The list call and the arena's words
+
+tables("list-of-idle", "One task: no record lent is 21, one is enough, more are left alone (01, Beside the lock call; 04)",
+       (records(0), no(21, 0), FRESH), (records(1), ok(1, 0, "0,0,255,0,8192"), FRESH), (records(255), ok(1, 0, "0,0,255,0,8192")),
+       (START, ok(0, 0)), (records(1), ok(1, 0, "0,1,255,0,8192")))
+
+tables("list-enough-records",
+       "As many records as tasks are enough, one fewer is 21 and alters nothing (01, Where a call is turned back; 04)",
+       *added(128, 9), (records(2), no(21, 0)), (records(3), ok(3, 0, "0,0,255,0,8192;1,0,128,0,64;2,0,9,0,64")), (START, ok(2, 2)),
+       (BLOCK, ok(0, 2)), (switch(1), ok(1, 1)), (records(3), ok(3, 1, "0,0,255,0,8192;1,1,128,0,64;2,2,9,0,64")),
+       (records(2), no(21, 1),
+        table([UNTOUCHED, "1,1,1,128,0,5,5,0,-,8192,64,8256,0", "2,2,2,9,0,5,5,0,-,8256,64,8316,0"], "0,1,1,3,3")),
+       (records(0), no(21, 1)))
+
+tables("list-in-slot-order",
+       "Records are in the order of the slots, a Terminated task's too, and an empty slot has none (01, Beside the lock call)",
+       *added(128, 200), (START, ok(1, 1)), (EXIT, ok(0, 1)), (switch(0), ok(2, 2)),
+       (records(3), ok(3, 2, "0,0,255,0,8192;1,5,128,0,64;2,1,200,0,64")), (REAP_ONE, ok(0x2000, 2)), (records(1), no(21, 2)),
+       (records(2), ok(2, 2, "0,0,255,0,8192;2,1,200,0,64")), (add(0, 255, 16), ok(3, 2)),
+       (records(3), ok(3, 2, "0,0,255,0,8192;3,0,255,0,16;2,1,200,0,64")))
+
+tables("list-used-bytes",
+       "Used is size less 4 for each leading painted word: a word in the middle, the first, the last (01, Beside the lock call)",
+       *added(128),
+       (word(2053, 0), ok(0, 0)), (records(2), ok(2, 0, "0,0,255,0,8192;1,0,128,44,64")),
+       (word(2060, 0), ok(0, 0)), (records(2), ok(2, 0, "0,0,255,0,8192;1,0,128,44,64")),
+       (word(2048, 0), ok(0, 0)), (records(2), ok(2, 0, "0,0,255,0,8192;1,0,128,64,64")),
+       (word(2048, 1), ok(0, 0)), (records(2), ok(2, 0, "0,0,255,0,8192;1,0,128,44,64")),
+       (word(2053, 1), ok(0, 0)), (records(2), ok(2, 0, "0,0,255,0,8192;1,0,128,16,64")),
+       (word(2060, 1), ok(0, 0)), (records(2), ok(2, 0, "0,0,255,0,8192;1,0,128,0,64")),
+       (word(2063, 0), ok(0, 0)), (word(2064, 0), ok(0, 0)), (records(2), ok(2, 0, "0,0,255,0,8192;1,0,128,4,64")),
+       (word(2047, 0), ok(0, 0)), (records(2), ok(2, 0, "0,0,255,4,8192;1,0,128,4,64")),
+       (word(0, 0), ok(0, 0)), (word(4095, 0), ok(0, 0)),
+       (records(2), ok(2, 0, "0,0,255,8192,8192;1,0,128,4,64"), table([UNTOUCHED, "1,1,0,128,0,5,5,0,-,8192,64,8256,0"], "0,0,0,2,2")))
+
+tables("add-paints-its-region", "Add paints its region and no word before or after it (01, control.rs)",
+       (word(2047, 0), ok(0, 0)), *added(128, 128), (word(2052, 0), ok(0, 0)), (word(2064, 0), ok(0, 0)),
+       (records(3), ok(3, 0, "0,0,255,4,8192;1,0,128,48,64;2,0,128,64,64")), (START, ok(1, 1)), (EXIT, ok(0, 1)), (switch(0), ok(2, 2)),
+       (REAP(1), ok(0x2000, 2)), (add(0, 200), ok(3, 2)), (records(3), ok(3, 2, "0,0,255,4,8192;3,0,200,0,64;2,1,128,64,64")))
+
+tables("guard-altered",
+       "17: one of the first four words of current's region is altered; 16 comes first; painted again, accepted (01, Where a call is turned back)",
+       *added(128), (START, ok(1, 1)), (word(2048, 0), ok(0, 1)), (switch(0), no(17, 1)), (line(0x04, 0, 8256), no(16, 1)),
+       (line(0x04, 0, 8188), no(16, 1), table([UNTOUCHED, "1,1,1,128,0,5,5,0,-,8192,64,8256,0"], "0,1,1,2,2")),
+       (word(2048, 1), ok(0, 1)), (switch(0), ok(1, 1), table([UNTOUCHED, "1,1,1,128,0,5,5,0,-,8192,64,8252,0"], "0,1,1,2,2")),
+       *[pair for at in (2049, 2050, 2051)
+         for pair in ((word(at, 0), ok(0, 1)), (switch(0), no(17, 1)), (word(at, 1), ok(0, 1)), (switch(0), ok(1, 1)))],
+       (word(2052, 0), ok(0, 1)), (switch(0), ok(1, 1)), (word(0, 0), ok(0, 1)), (switch(0), ok(1, 1)), (BLOCK, ok(0, 1)),
+       (switch(0), ok(0, 0)), (IDLE, no(17, 0)), (word(0, 1), ok(0, 0)), (IDLE, ok(0, 0)))
+
+# Fresh
+
+tables("fresh-again", "A fresh kernel takes the place of the other, and idle's region is painted again (01, The machine; 04)",
+       *added(128), (START, ok(1, 1)), (TICK, ok(0, 1)), (LOCK(0), ok(1, 1)), (RELEASE(1), ok(0, 1)), (SIGNAL(2), ok(0, 1)),
+       (word(0, 0), ok(0, 1)),
+       (records(2), ok(2, 1, "0,0,255,8192,8192;1,1,128,0,64"),
+        table([UNTOUCHED, "1,1,1,128,0,5,4,1,-,8192,64,8256,0"], "1,1,1,2,2", "1,1,-,[]; 0,-,-,[]; 0,-,-,[]; 0,-,-,[];",
+              "0,[]; 1,[]; 0,[]; 0,[];", "0,[]; 0,[]; 1,[]; 0,[];", "0,1")),
+       (fresh(1000), ok(0, 0), FRESH), (records(1), ok(1, 0, "0,0,255,0,8192")), (CURRENT_ID, no(2, 0)), *added(128), (START, ok(1, 1)))
+
+tables("fresh-at-other-rates",
+       "Sleep rounds up by the hz of fresh: 0 ms, 1,000 and 1,001 ms at 1 hz, 10 and 11 ms at 100 hz, and more (01, Exam cases)",
+       *[pair for hz, slept in ((1, ((0, 0), (1, 1), (1000, 1), (1001, 2))), (100, ((10, 1), (11, 2))), (1001, ((1, 2), (1000, 1001))),
+                                (NONE, ((1, 4294968), (NONE, 18446744065119618))))
+         for pair in ((fresh(hz), ok(0, 0), FRESH), (START, ok(0, 0)),
+                      *[(SLEEP(ms), ok(0, 0), table([f"0,0,3,255,{ticks},1,1,0,-,0,8192,8192,0"], "0,1,0,1,1")) for ms, ticks in slept])],
+       (fresh(100), ok(0, 0)), (START, ok(0, 0)), (SLEEP(11), ok(0, 0)),
+       (TICK, ok(1, 0), table(["0,0,3,255,2,1,1,0,-,0,8192,8192,0"], "1,1,0,1,1", charges="1")),
+       (TICK, ok(1, 0), table(["0,0,0,255,2,1,1,0,-,0,8192,8192,0"], "2,1,0,1,1", charges="2")))
+
+tables("fresh-at-rate-zero", "Fresh with hz 0 is 7; the kernel, its hz and the words stay (01, Where a call is turned back; 03, 21; 04)",
+       (fresh(0), no(7, 0), FRESH), *added(128), (START, ok(1, 1)), (TICK, ok(0, 1)), (LOCK(0), ok(1, 1)), (word(5, 0), ok(0, 1)),
+       (word(2053, 0), ok(0, 1)), (records(2), ok(2, 1, "0,0,255,8172,8192;1,1,128,44,64")),
+       (fresh(0), no(7, 1),
+        table([UNTOUCHED, "1,1,1,128,0,5,4,1,-,8192,64,8256,0"], "1,1,1,2,2", "1,1,-,[]; 0,-,-,[]; 0,-,-,[]; 0,-,-,[];", charges="0,1")),
+       (records(2), ok(2, 1, "0,0,255,8172,8192;1,1,128,44,64")), (CURRENT_ID, ok(1, 1)),
+       (SLEEP(3), ok(0, 1),
+        table([UNTOUCHED, "1,1,3,128,4,5,4,1,-,8192,64,8256,0"], "1,1,1,2,2", "1,1,-,[]; 0,-,-,[]; 0,-,-,[]; 0,-,-,[];", charges="0,1")))
+
+
+def played(program, lines):
+    """What the model prints: an answer for each line and, for `tables`, a table."""
     out = []
-    model.replay("\n".join(asked).encode(), out)
-    assert [l.rstrip("\n") for l in out] == got, name
-    # The Rust has no value for release and signal.
-    plain = lambda l, a: a[:2] + a[10:] if l[:2] in ("0f", "11") else a
-    mine = [plain(l, a) for l, a in zip(lines, answers) if in_domain(l, a)]
-    assert mine == [plain(l, a) for l, a in zip(asked, got[::2])], name
-    if DIR and kept:
-        path = os.path.join(DIR, name.replace(" ", "-"))
-        with open(path + ".in", "w") as file: file.write("".join(l + "\n" for l in lines))
-        with open(path + ".out", "w") as file: file.write("".join(a + "\n" for a in answers))
-    print("ok", name)
-    return got
+    model.run("".join(call + "\n" for call in lines).encode(), program == "tables", out)
+    return [text.rstrip("\n") for text in out]
 
-def ans(number, value, current): return f"{number:02x}{value:08x}{current:02x}"
 
-# 01's example
-ex = [("018020000400", "000000000100"), ("018024000400", "000000000200"), ("020000000000", "000000000101"), ("030000000000", "000000000001")]
-run("example", ex + [("040000002400", "100000000001"), ("0400000023c0", "000000000202")])
-run("example up to its fifth line", ex, outside=("040000002400", 0x10), kept=False)
+def in_domain(call, answer):
+    """01's compared domain has no number but 0, 4, 8, 9 and wait's 7."""
+    return answer[:2] in ("00", "04", "08", "09") or answer[:2] == "07" and call[:2] == "06"
 
-# No round robin memory: A in slot 3, B in slot 4 alike, better one in slot 2
-run("no memory per priority", [
-    (add(0, 200), ans(0, 1, 0)), (add(1, 8), ans(0, 2, 0)), (add(2, 128), ans(0, 3, 0)), (add(3, 128), ans(0, 4, 0)),
-    (START, ans(0, 2, 2)), (op(8, 0, 1), ans(0, 0, 2)), (sw(1), ans(0, 3, 3)),
-    (TICK, ans(0, 1, 3)),                       # the better one woke
-    (sw(2), ans(0, 2, 2)), (op(8, 0, 5), ans(0, 0, 2)),
-    (sw(1), ans(0, 3, 3)),                      # A again, though B waited
-])
-# A signal lost: the popped task is not Blocked
-got = run("lost signal", [
-    (add(0, 128), None), (add(1, 128), None), (START, ans(0, 1, 1)), (op(0x10), ans(0, 0, 1)), (op(9, 0, 1), ans(0, 0, 1)),
-    (op(0x11), ans(0, 1, 1)), (op(0x10), ans(0, 0, 1)),
-])
-assert got[-1].endswith("| 0,[1]; 0,[]; 0,[]; 0,[];")
-# Sleep 0 at tick 7: Ready at tick 8
-run("sleep 0", [(add(0, 128), None), (START, ans(0, 1, 1))] + [(TICK, None)] * 7 + [
-    (op(8), ans(0, 0, 1)), (sw(0), ans(0, 0, 0)), (TICK, ans(0, 1, 0)), (IDLE, ans(0, 1, 1))])
-# A recorded waiter that has been reaped still gives 9
-run("reaped waiter", [
-    (add(0, 128), None), (add(1, 128), None), (add(2, 128), None), (START, ans(0, 1, 1)),
-    (op(6, 0, 2), ans(0, 0, 1)),                # 1 waits for 2
-    (op(9, 0, 1), ans(0, 0, 1)),                # woken by hand
-    (EXIT, ans(0, 0, 1)), (sw(0), ans(0, 2, 2)), (op(7, 0, 1), ans(0, 0x2000, 2)),
-    (op(8, 0, 1), ans(0, 0, 2)), (sw(1), ans(0, 3, 3)), (op(6, 0, 2), ans(9, 0, 3)),
-    (op(6, 0, 3), ans(7, 0, 3)), (op(6, 0, 1), ans(8, 0, 3)), (op(6, 0, 0), ans(0, 0, 3)),
-])
-# Idle by slot: ids and slots differ after a reap
-run("ids are no slots", [
-    (add(0, 128), None), (START, ans(0, 1, 1)), (EXIT, ans(0, 0, 1)), (op(0x14), ans(0, 0xffffffff, 1)),
-    (op(7, 0, 1), ans(9, 0, 1)), (sw(0), ans(0, 0, 0)), (op(0x14), ans(0, 0x2000, 0)), (op(0x14), ans(0, 0xffffffff, 0)),
-    (add(0, 9), ans(0, 2, 0)), (IDLE, ans(0, 1, 1)), (op(7, 0, 0), ans(9, 0, 1)), (op(7, 0, 2), ans(9, 0, 1)), (op(7, 0, 1), ans(8, 0, 1)),
-])
-run("idle does not exit", [(START, ans(0, 0, 0))], outside=(EXIT, 10))
-# Slots 3 and 15 at 7, current 15: 3.  Slots 3 and 4 at 128, current 3: 4
-run("pick 3 and 15", [(add(i, 7 if i in (2, 14) else 200, 16), ans(0, i + 1, 0)) for i in range(15)] + [
-    (START, ans(0, 3, 3)), (sw(2, 16), ans(0, 15, 15)), (sw(14, 16), ans(0, 3, 3))])
-run("pick 3 and 4", [(add(i, 128 if i in (2, 3) else 200), None) for i in range(4)] + [(START, ans(0, 3, 3)), (sw(2), ans(0, 4, 4))])
-run("sixteenth and seventeenth", [(add(i, 128), ans(0, i + 1, 0)) for i in range(15)] + [   # idle is counted
-    ("018028000040", ans(4, 0, 0)),
-    ("018028010003", ans(4, 0, 0))])            # 4 before 5
-run("pick by priority", [(add(0, 200), None), (add(1, 9), None), (add(2, 200), None), (add(3, 200), None), (add(4, 8), None), (START, ans(0, 5, 5))])
-# None Ready, slot 0 Blocked: 0
-run("none Ready", [(START, ans(0, 0, 0)), (op(0x13), ans(0, 0, 0)), (IDLE, ans(0, 0, 0))])
-# Slice
-run("slice", [(add(0, 128), None), (START, ans(0, 1, 1))] + [(TICK, ans(0, int(i == 4), 1)) for i in range(5)] + [(sw(0), ans(0, 1, 1))])
-run("size 16 and 12", [("01802000000c", ans(5, 0, 0)), ("018020000010", ans(0, 1, 0))])
-run("regions", [(l, ans(5, 0, 0)) for l in (
-    "018020020010", "018020000012", "018020000000", "018000000010", "01801ff00014", "01803ffc0010", "0180fffc0010", "01802000fffc")] + [
-    ("018020000010", ans(0, 1, 0)), ("018020100010", ans(0, 2, 0)), ("0180200c0010", ans(5, 0, 0)), ("01803ff00010", ans(0, 3, 0))])
-# Eight queued: one of them again is accepted, a ninth is 12 - for each kind of object
-for o in (0x0d, 0x10):
-    run(f"eight queued {o:02x}", [(add(i, 128), None) for i in range(10)] + [(START, ans(0, 1, 1))]
-        + [x for i in range(8) for x in ((op(o), ans(0, 0, i + 1)), (sw(i), ans(0, i + 2, i + 2)))]
-        + [(op(9, 0, 4), ans(0, 0, 9)), (op(0x13), ans(0, 0, 9)), (sw(8), ans(0, 10, 10)), (op(0x13), None), (sw(9), ans(0, 4, 4)),
-           (op(o), ans(0, 0, 4)), (op(9, 0, 9), ans(0, 0, 4)), (sw(3), ans(0, 9, 9))],
-        outside=(op(o), 12))
-run("eight queued 0a", [(add(i, 128), None) for i in range(11)] + [(START, ans(0, 1, 1)), (op(0xa), ans(0, 1, 1)), (sw(0), ans(0, 2, 2))]
-    + [x for i in range(1, 9) for x in ((op(0xa), ans(0, 0, i + 1)), (sw(i), ans(0, i + 2, i + 2)))]
-    + [(op(9, 0, 4), None), (op(0x13), None), (sw(9), ans(0, 11, 11)), (op(0x13), None), (sw(10), ans(0, 1, 1)), (op(0x13), None), (sw(0), ans(0, 4, 4)),
-       (op(0xa), ans(0, 0, 4)), (op(9, 0, 10), None), (sw(3), ans(0, 10, 10))], outside=(op(0xa), 12))
-# Handoff
-run("handoff", [
-    (add(0, 128), None), (add(1, 128), None), (START, ans(0, 1, 1)), (op(0xa), ans(0, 1, 1)), (sw(0), ans(0, 2, 2)), (op(0xa), ans(0, 0, 2)),
-    (sw(1), ans(0, 1, 1)), (op(0xb), ans(0, 1, 1)), (op(0xc), ans(0, 0, 1)), (sw(0), ans(0, 2, 2)), (op(0xa), ans(0, 1, 2))], outside=(op(0xa), 13))
-run("handoff never taken up", [
-    (add(0, 128), None), (add(1, 128), None), (START, ans(0, 1, 1)), (op(0xa), ans(0, 1, 1)), (sw(0), ans(0, 2, 2)), (op(0xa), ans(0, 0, 2)),
-    (sw(1), ans(0, 1, 1)), (op(0xb), ans(0, 1, 1)), (sw(0), ans(0, 2, 2)), (op(0xb), ans(0, 0, 2))], outside=(op(0xb), 14))
-# Exit wakes the waiter; revive by status; exit then lock owns
-run("exit and waiter", [
-    (add(0, 128), None), (add(1, 128), None), (START, ans(0, 1, 1)), (op(6, 0, 2), ans(0, 0, 1)), (op(6, 0, 2), ans(0, 0, 1)),
-    (sw(0), ans(0, 2, 2)), (EXIT, ans(0, 0, 2)), (op(0x12), ans(0, 0, 2)), (op(0xa), ans(0, 1, 2)), (sw(1), ans(0, 1, 1)), (sw(0), ans(0, 2, 2))],
-    outside=(EXIT, 11))
-# Before the start
-run("before the start", [
-    (TICK, ans(0, 0, 0)), (op(9, 0, 7), ans(0, 0, 0)), (op(7, 0, 7), ans(8, 0, 0)), (op(7), ans(9, 0, 0)), (op(0x14), ans(0, 0xffffffff, 0)),
-    (op(0xe), ans(0, 0, 0)), (op(0xf), ans(0, 0, 0)), (op(0xe), ans(0, 1, 0)), (op(0x11), ans(0, 0, 0))], outside=(op(0xd), 2))
-run("2 before the start", [(l, ans(2, 0, 0)) for l in (
-    op(0x12), op(0x12, 1), op(0x13), op(8), EXIT, op(6), op(6, 0, 9), IDLE, op(4), op(0xa), op(0xb), op(0xc), op(0xd), op(0x10))]
-    + [(op(o, 4), ans(20, 0, 0)) for o in range(0xa, 0x12)])    # 20 before 2
-run("3 and after the start", [(START, ans(0, 0, 0)), (START, ans(3, 0, 0))] + [(op(o, 255), ans(20, 0, 0)) for o in range(0xa, 0x12)])
-run("10 before 11", [(START, ans(0, 0, 0)), (op(0xa), ans(0, 1, 0)), (EXIT, ans(10, 0, 0))])
-run("no call", [(l, "ff0000000000") for l in (
-    "", "0", "000000000000", "150000000000", "ff0000000000", "030000000001", "020100000000", "0a0000000001", "060100000000",
-    "03000000000", "0300000000000", "0A0000000000")]
-    + [(START, ans(0, 0, 0)), ("0A0000000000", "ff0000000000"), ("0a0000000000", ans(0, 1, 0))])
-for line, number in ((op(0xa, 4), 20), (op(0xe, 4), 20), (op(0x12, 1), 2), (IDLE, 2), (EXIT, 2), (op(6), 2), (op(8), 2),
-                     (op(0x13), 2), (op(0xb), 2), (op(0xc), 2), (op(0x10), 2)):
-    run(f"refused {line}", [], outside=(line, number), kept=False)
-for k in (1, 5, 6, 255): run(f"status {k}", [(START, None)], outside=(op(0x12, k), 7), kept=False)
-run("status", [(add(0, 9), None), (START, ans(0, 1, 1))] + [(op(0x12, k), ans(7 if k in (1, 5, 6, 255) else 0, 0, 1)) for k in (1, 5, 6, 255, 4, 0, 3, 2)])
+
+def replayed(calls, last=None):
+    """What the reference prints for calls of the domain; with a last line outside it, the number that it gives."""
+    given = "".join(call + "\n" for call in calls + ([] if last is None else [last]))
+    done = subprocess.run([REFERENCE, "replay"], input=given, capture_output=True, text=True)
+    assert done.returncode == (0 if last is None else 3), done.stderr
+    return done.stdout.splitlines() if last is None else done.stderr.rpartition("number ")[2][:2]
+
+
+def check(program, name, calls):
+    """Holds the case to the model and the reference; gives what is printed."""
+    lines, printed = [call[0] for call in calls], played(program, [call[0] for call in calls])
+    answers = printed[::2] if program == "tables" else printed
+    asked, mine = [], []
+    for at, (call, answer, *after) in enumerate(calls):
+        assert answers[at] == answer, (name, at, call, answers[at], answer)
+        assert not after or printed[2 * at + 1] == after[0], (name, at, call, printed[2 * at + 1], after[0])
+        if in_domain(call, answer):
+            asked.append(call)
+        elif program == "tables" or call[:2] not in ("1b", "1c", "1d", "1e", "1f"):     # the reference has them
+            number = replayed(asked, call)
+            assert number == answer[:2], (name, at, call, number, answer)
+    model.replay("".join(call + "\n" for call in asked).encode(), mine)
+    assert replayed(asked) == [text.rstrip("\n") for text in mine], name
+    return lines, printed
+
+
+def main():
+    with open(README) as file:
+        rows = [row for row in file.read().splitlines() if row.startswith("| ") and not row.startswith("| Case |")]
+    assert rows == [f"| {name} | {shows} |" for _, name, shows, _ in CASES], "the tables of tests/cases/README.md are others"
+    for program, name, _, calls in CASES:
+        for end, texts in zip((".in", ".out"), check(program, name, calls)):
+            if len(sys.argv) > 1:
+                folder = os.path.join(sys.argv[1], *([] if program == "turns" else [program]))
+                os.makedirs(folder, exist_ok=True)
+                with open(os.path.join(folder, name + end), "w") as file:
+                    file.write("".join(text + "\n" for text in texts))
+    print(f"{len(CASES)} cases: as worked out, as the model and, in its domain, as the Rust")
+
+
+if __name__ == "__main__":
+    main()

@@ -1,23 +1,19 @@
 #!/usr/bin/env python3
-"""Lists for `turns` with every refusal that a list from fresh can meet and malformed lines.
+"""Random lists for `turns` or `tables` that meet every refusal that a list from fresh can meet there, with malformed lines.
 
-  frames.py SEED LINES [MALFORMED]
-        one list; prints its lines. MALFORMED: share of malformed lines, default 0.03
   frames.py SEED LINES MALFORMED LISTS turns|tables PROGRAM [ARG..]
-        LISTS such lists, from SEED on; runs PROGRAM on each and compares with model.py, byte for byte
-
-Counts of (operation, number) go to standard error."""
+        LISTS lists of LINES lines, from SEED on, MALFORMED of them malformed (0.03 is 3 in 100); runs PROGRAM on each and
+        compares with model.py, byte for byte"""
 import random
-import subprocess
 import sys
 
 sys.dont_write_bytecode = True
+import against
 import model
-
-counts = {}
 
 
 def malformed():
+    """Most of these are no call."""
     whole = f"{rng.randrange(256):02x}{rng.randrange(256):02x}{rng.randrange(1 << 32):08x}".encode()
     kind = rng.randrange(9)
     if kind == 0:
@@ -35,23 +31,43 @@ def malformed():
     if kind == 6:
         return b" 030000000000"[rng.randrange(2):][:12]
     if kind == 7:
-        op = rng.choice([2, 3, 5, 0x13, 0x14])
-        return f"{op:02x}{rng.choice([0, 1]):02x}{rng.choice([0, 1, 1 << 31]):08x}".encode()
+        op = rng.choice([2, 3, 5, 0x13, 0x14, *range(0x15, 0x20)])
+        return f"{op:02x}{rng.choice([0, 1, 2, 255]):02x}{rng.choice([0, 1, 4095, 4096, 1 << 31]):08x}".encode()
     return whole
+
+
+def operation():
+    if machine.operations is model.TABLES:
+        if rng.random() < .003:
+            return 0x1f
+        if rng.random() < (.5 if mood == "words" else .05):
+            return rng.choice([0x1b, 0x1b, 0x1c, 0x1d, 0x1e, 0x1e])
+    if mood == "crowd":
+        return rng.choice([4, 4, 4, what, what, what, 9, 3, 1])
+    if mood == "life":
+        return rng.choice([1, 1, 3, 4, 4, 4, 5, 5, 6, 6, 7, 7, 9, 0x14, 0x12])
+    if mood == "mutex":
+        return rng.choice([3, 4, 4, 4, 5, 9, 0xa, 0xa, 0xa, 0xb, 0xb, 0xb, 0xc])
+    if mood == "words":
+        return rng.choice([1, 3, 4, 4, 4, 4, 5, 7, 9, 0x14])
+    return rng.randrange(0x01, 0x15)
+
+
+def word():
+    """A word to alter or to paint: often a guard of current's that is altered now, or the first words of a region."""
+    own, task = machine.kernel.own(), rng.choice([task for task in machine.kernel.slots if task is not None])
+    altered = [at for at in range(own.start // 4, own.start // 4 + 4) if machine.arena[at] != model.PAINT]
+    if altered and rng.random() < .6:
+        return altered[0], 1
+    at = rng.choice([task.start // 4 + rng.randrange(6), task.start // 4 + rng.randrange(task.size // 4), rng.randrange(4096)])
+    return min(at, 4095), rng.randrange(2)
 
 
 def frame():
     kernel, own = machine.kernel, machine.kernel.own()
     present = [t for t in kernel.slots if t is not None]
     ids = [t.id for t in present]
-    if mood == "crowd":
-        op = rng.choice([4, 4, 4, what, what, what, 9, 3, 1])
-    elif mood == "life":
-        op = rng.choice([1, 1, 3, 4, 4, 4, 5, 5, 6, 6, 7, 7, 9, 0x14, 0x12])
-    elif mood == "mutex":
-        op = rng.choice([3, 4, 4, 4, 5, 9, 0xa, 0xa, 0xa, 0xb, 0xb, 0xb, 0xc])
-    else:
-        op = rng.randrange(0x01, 0x15)
+    op = operation()
     a = y = 0
     if op == 1:
         a = rng.choice([7, 8, 8, 128, 255])
@@ -65,10 +81,12 @@ def frame():
         y = own.start + rng.randrange(own.size)
         if rng.random() < .1:
             y = rng.choice([own.start + own.size, own.start + own.size + 4, max(0, own.start - 1), rng.randrange(1 << 32), 0xffffffff, 0])
-    elif op in (6, 7, 9):
+    elif op in (6, 7, 9, 0x1d):
         y = rng.choice(ids if rng.random() < .8 else [own.id, kernel.next_id, 0, 0xffffffff])
         if op == 7 and rng.random() < .5:
             y = rng.choice([t.id for t in present if t.state == 5] or ids)
+        if op == 0x1d:
+            a = rng.choice([0, 1, 127, 128, 255])
     elif op == 8:
         y = rng.choice([0, 1, 1, 2, 3, 10, 0xffffffff])
     elif 0xa <= op <= 0x11:
@@ -77,16 +95,22 @@ def frame():
             a = rng.choice([4, 5, 128, 255])
     elif op == 0x12:
         a = rng.choice([0, 0, 0, 0, 2, 3, 4, 1, 5, 6, 255])
+    elif op == 0x1b:
+        a = rng.choice([kernel.task_count, kernel.task_count, kernel.task_count - 1, 0, 16, 255])
+    elif op == 0x1e:
+        y, a = word()
+    elif op == 0x1f:
+        y = rng.choice([0, 0, 1, 3, 100, 999, 1000, 1001, 0xffffffff])
     return f"{op:02x}{a:02x}{y:08x}".encode()
 
 
-def make(seed, lines, share):
+def make(seed, lines, share, tables):
     """A list, as bytes."""
     global rng, machine, mood, what
-    rng, machine, mood, what, out = random.Random(seed), model.Turns(), "any", 0xd, []
+    rng, machine, mood, what, out = random.Random(seed), model.Machine(tables), "any", 0xd, []
     for n in range(lines):
         if rng.random() < .02:
-            mood = rng.choice(["any", "any", "crowd", "life", "mutex"])
+            mood = rng.choice(["any", "any", "crowd", "life", "mutex"] + ["words"] * tables)
             what = rng.choice([0xa, 0xd, 0x10])
         if rng.random() < share:
             line = malformed()
@@ -94,31 +118,13 @@ def make(seed, lines, share):
             line = b"020000000000"
         else:
             line = frame()
-        op, number, _ = machine.answer(line)
-        counts[op, number] = counts.get((op, number), 0) + 1
+        machine.step(line)
         out.append(line)
     return b"\n".join(out) + (b"\n" if rng.random() < .5 else b"")
 
 
-def main():
-    seed, lines = int(sys.argv[1]), int(sys.argv[2])
-    share = float(sys.argv[3]) if len(sys.argv) > 3 else 0.03
-    if len(sys.argv) <= 4:
-        sys.stdout.buffer.write(make(seed, lines, share))
-    else:
-        lists, mode, program = int(sys.argv[4]), sys.argv[5], sys.argv[6:]
-        for at in range(seed, seed + lists):
-            data, want = make(at, lines, share), []
-            model.run(data, mode == "tables", want)
-            got = subprocess.run(program, input=data, capture_output=True)
-            if got.stdout != "".join(want).encode() or got.returncode != 0:
-                pairs = zip(got.stdout.decode(errors="replace").split("\n"), "".join(want).split("\n"))
-                first = next((n for n, (g, w) in enumerate(pairs) if g != w), "the end")
-                sys.exit(f"differs: seed {at}, output line {first} from 0, status {got.returncode}")
-        print(f"{lists} lists of {lines} lines: equal")
-    for key in sorted(counts, key=lambda key: (key[0] or 0, key[1])):
-        print(f"{'--' if key[0] is None else format(key[0], '02x')} {key[1]}: {counts[key]}", file=sys.stderr)
-
-
 if __name__ == "__main__":
-    main()
+    if len(sys.argv) < 7 or sys.argv[5] not in ("turns", "tables"):
+        sys.exit(__doc__)
+    first, lines, share, lists = int(sys.argv[1]), int(sys.argv[2]), float(sys.argv[3]), int(sys.argv[4])
+    against.compare([make(seed, lines, share, sys.argv[5] == "tables") for seed in range(first, first + lists)], sys.argv[5], sys.argv[6:])

@@ -1,22 +1,12 @@
 #!/usr/bin/env python3
-"""A model of document 01's step, following the words of documents 01 and 03. Its author had
-read the published Rust too.
+"""A model of document 01's step, following the words of documents 01, 03 and 04. Its author had read the published Rust too.
 
   model.py turns    standard input as `turns` reads it; prints what `turns` prints
-  model.py tables   the same, and after each answer the line of `tables`
-  model.py replay   lists parted by `new`; prints as the reference does: tables
-                    without charges, the values of release and signal as 0
-  model.py ticks    lines `hz ms`; prints ms_to_ticks
-  model.py pick     lines of 66 hex digits; prints the exported pick
+  model.py tables   the same for `tables`, which has operations of its own: after each answer the table
+  model.py replay   lists of `tables` parted by `new`; prints as the reference does: tables without charges, the values
+                    of release and signal as 0
 
-Every refusal that a list from fresh can meet is there; those that only other
-kernels can meet (1, 6, 15, 18, 19) are there too where they cost nothing.
-MODEL_FAULT=name puts one fault in (see FAULTS), to try a comparison with.
-MODEL_CHECK=1 checks after each call that the kernel is whole and that a
-refusal altered nothing.
-"""
-
-import os
+Every refusal that a list from fresh can meet is there, and those that only other kernels can meet (6, 15, 18, 19) too."""
 import sys
 
 READY, RUNNING, BLOCKED, SLEEPING, SUSPENDED, TERMINATED, EMPTY = range(7)
@@ -24,20 +14,6 @@ SLOTS, OBJECTS, PLACES, SLICE = 16, 4, 8, 5
 PAINT = 0xDEADBEEF
 U32 = 0xFFFFFFFF
 U64 = 0xFFFFFFFFFFFFFFFF
-
-FAULT = os.environ.get("MODEL_FAULT", "")
-CHECK = os.environ.get("MODEL_CHECK", "") == "1"
-FAULTS = """pick_from_current pick_priority_only tick_no_reload tick_wake_late
-tick_true_before_start switch_no_store switch_no_reload switch_ready_always
-start_reload sleep_zero_none exit_keeps_waiter exit_keeps_remaining
-exit_wakes_sleeping wait_terminated_blocks wait_forgets_gone_waiter
-reap_one_takes_current reap_one_from_highest lock_clears_handoff_late
-unlock_no_owned_up unlock_no_wake signal_kept release_no_count
-queue_lifo queue_twice event_wait_keeps try_acquire_blocks add_highest
-add_reuses_id wake_any status_resets_slice idle_by_priority none_ready_keeps_state
-handoff_not_cleared sleep_wraps""".split()
-if FAULT and FAULT not in FAULTS:
-    sys.exit("unknown fault; known: " + " ".join(FAULTS))
 
 
 def ms_to_ticks(hz, ms):
@@ -56,21 +32,11 @@ def pick(states, priorities, current):
             best = priorities[at]
     if best is None:
         return 0
-    first = 0 if FAULT == "pick_from_current" else 1
-    if FAULT == "pick_priority_only":
-        first = SLOTS - current
-    for step in range(SLOTS):
-        at = (current + first + step) % SLOTS
+    for step in range(1, SLOTS + 1):
+        at = (current + step) % SLOTS
         if states[at] == READY and priorities[at] == best:
             return at
     raise AssertionError
-
-
-def exported_pick(states, priorities, current):
-    if (len(states) != SLOTS or len(priorities) != SLOTS
-            or any(state > EMPTY for state in states) or current > 15):
-        return 255
-    return pick(states, priorities, current)
 
 
 class Task:
@@ -146,46 +112,22 @@ class Kernel:
                 return at
         return None
 
-    def whole(self):
-        if not (2048 <= self.arena_words <= 16384 and self.hz >= 1):
-            return False
-        if not (0 <= self.current < SLOTS and self.slots[0] and self.slots[self.current]):
-            return False
-        for task in self.slots:
-            if task is None:
-                continue
-            if (task.start % 4 or task.size % 4 or task.size < 16
-                    or task.start + task.size > 4 * self.arena_words or task.owned > 4):
-                return False
-        queues = [o.queue for o in self.mutexes + self.semaphores + self.events]
-        return (all(len(queue) <= PLACES for queue in queues)
-                and self.task_count == sum(task is not None for task in self.slots)
-                and all(charge <= self.tick_count for charge in self.charges))
-
     def block_on(self, queue):
         id = self.own().id
-        if id not in queue or FAULT == "queue_twice":
+        if id not in queue:
             queue.append(id)
         self.own().state = BLOCKED
 
-    def drop_head(self, queue):
-        return queue.pop(-1 if FAULT == "queue_lifo" else 0)
-
     def wake_id(self, id):
         at = self.find(id)
-        if at is not None and (self.slots[at].state == BLOCKED or FAULT == "wake_any"):
+        if at is not None and self.slots[at].state == BLOCKED:
             self.slots[at].state = READY
-            return True
-        return False
 
     def would_overflow(self, queue):
         return len(queue) == PLACES and self.own().id not in queue
 
     def next_task(self):
         states = [EMPTY if task is None else task.state for task in self.slots]
-        if FAULT == "idle_by_priority":
-            states = [EMPTY if task is None or task.priority == 255 else task.state
-                      for task in self.slots]
         return pick(states, [0 if task is None else task.priority for task in self.slots],
                     self.current)
 
@@ -202,21 +144,16 @@ class Kernel:
                 return 5, 0
         if self.next_id > U32:
             return 6, 0
-        id = self.next_id
-        if FAULT == "add_reuses_id":
-            id = min(set(range(SLOTS + 1)) - {t.id for t in self.slots if t is not None})
-        task = Task(id, priority, start, size, SLICE)
-        self.slots[free[-1 if FAULT == "add_highest" else 0]] = task
+        self.slots[free[0]] = Task(self.next_id, priority, start, size, SLICE)
         self.next_id += 1
         self.task_count += 1
         arena[start // 4:(start + size) // 4] = [PAINT] * (size // 4)
-        return 0, task.id
+        return 0, self.next_id - 1
 
     def turn(self, reload):
         self.current = self.next_task()
         task = self.own()
-        if task.state == READY or FAULT != "none_ready_keeps_state":
-            task.state = RUNNING
+        task.state = RUNNING
         if reload and task.remaining == 0:
             task.remaining = task.time_slice
         return 0, self.current
@@ -225,7 +162,7 @@ class Kernel:
         if self.started:
             return 3, 0
         self.started = True
-        return self.turn(FAULT == "start_reload")
+        return self.turn(reload=False)
 
     def switch(self, arena, sp):
         if not self.started:
@@ -236,11 +173,10 @@ class Kernel:
         first = task.start // 4
         if any(word != PAINT for word in arena[first:first + 4]):
             return 17, 0
-        if FAULT != "switch_no_store":
-            task.sp = sp
-        if task.state == RUNNING or FAULT == "switch_ready_always":
+        task.sp = sp
+        if task.state == RUNNING:
             task.state = READY
-        return self.turn(FAULT != "switch_no_reload")
+        return self.turn(reload=True)
 
     def tick(self):
         if self.tick_count == U64:
@@ -250,20 +186,18 @@ class Kernel:
             self.charges[self.current] += 1
         woke = False
         for task in self.slots:
-            if task is not None and task.state == SLEEPING:
-                late = 1 if FAULT == "tick_wake_late" else 0
-                if task.wake_tick + late <= self.tick_count:
-                    task.state = READY
-                    woke = True
+            if task is not None and task.state == SLEEPING and task.wake_tick <= self.tick_count:
+                task.state = READY
+                woke = True
         if not self.started:
-            return 0, int(FAULT == "tick_true_before_start")
+            return 0, 0
         task = self.own()
         if task.state != RUNNING:
             return 0, 1
         if task.remaining > 0:
             task.remaining -= 1
         ended = task.remaining == 0
-        if ended and FAULT != "tick_no_reload":
+        if ended:
             task.remaining = task.time_slice
         return 0, int(woke or ended)
 
@@ -278,8 +212,6 @@ class Kernel:
         if state in (RUNNING, TERMINATED) or state > 5:
             return 7, 0
         self.own().state = state
-        if FAULT == "status_resets_slice":
-            self.own().remaining = self.own().time_slice
         return 0, 0
 
     def block(self):
@@ -291,12 +223,8 @@ class Kernel:
     def sleep_ticks(self, ticks):
         if not self.started:
             return 2, 0
-        if ticks == 0 and FAULT == "sleep_zero_none":
-            return 0, 0
         self.own().state = SLEEPING
         self.own().wake_tick = min(self.tick_count + ticks, U64)
-        if FAULT == "sleep_wraps":
-            self.own().wake_tick &= U32
         return 0, 0
 
     def sleep_ms(self, ms):
@@ -315,18 +243,10 @@ class Kernel:
         if task.owned > 0:
             return 11, 0
         task.state = TERMINATED
-        if FAULT != "exit_keeps_remaining":
-            task.remaining = 0
-        task.wake_tick = 0
-        waiter = task.waiter
-        if FAULT != "exit_keeps_waiter":
-            task.waiter = None
-        if waiter is not None:
-            at = self.find(waiter)
-            if FAULT == "exit_wakes_sleeping" and at is not None \
-                    and self.slots[at].state == SLEEPING:
-                self.slots[at].state = READY
-            self.wake_id(waiter)
+        task.remaining = task.wake_tick = 0
+        if task.waiter is not None:
+            self.wake_id(task.waiter)
+        task.waiter = None
         return 0, 0
 
     def wait(self, id):
@@ -340,12 +260,9 @@ class Kernel:
             return 8, 0
         target = self.slots[at]
         if target.state == TERMINATED:
-            if FAULT == "wait_terminated_blocks":
-                own.state = BLOCKED
             return 0, 0
         if target.waiter is not None and target.waiter != own.id:
-            if FAULT != "wait_forgets_gone_waiter" or self.find(target.waiter) is not None:
-                return 9, 0
+            return 9, 0
         target.waiter = own.id
         own.state = BLOCKED
         return 0, 0
@@ -366,14 +283,10 @@ class Kernel:
 
     def reap_one(self):
         """The value is a region's start, or None."""
-        order = range(SLOTS - 1, 0, -1) if FAULT == "reap_one_from_highest" else range(1, SLOTS)
-        for at in order:
+        for at in range(1, SLOTS):
             task = self.slots[at]
             if task is not None and task.state == TERMINATED and at != self.current:
                 return self.empty(at)
-            if FAULT == "reap_one_takes_current" and task is not None \
-                    and task.state == TERMINATED:
-                return 0, None
         return 0, None
 
     def result(self, id, r):
@@ -400,8 +313,7 @@ class Kernel:
         if mutex.owner == id:
             if mutex.handoff_to != id:
                 return 13, 0
-            if FAULT != "lock_clears_handoff_late":
-                mutex.handoff_to = None
+            mutex.handoff_to = None
             return 0, 1
         if self.would_overflow(mutex.queue):
             return 12, 0
@@ -431,18 +343,15 @@ class Kernel:
             return 15, 0
         own.owned -= 1
         if mutex.queue:
-            next = self.drop_head(mutex.queue)
+            next = mutex.queue.pop(0)
             mutex.locked = True
             mutex.owner = mutex.handoff_to = next
             at = self.find(next)
-            if at is not None and FAULT != "unlock_no_owned_up":
+            if at is not None:
                 self.slots[at].owned += 1
-            if FAULT != "unlock_no_wake":
-                self.wake_id(next)
+            self.wake_id(next)
             return 0, 1
-        mutex.locked, mutex.owner = False, None
-        if FAULT != "handoff_not_cleared":
-            mutex.handoff_to = None
+        mutex.locked, mutex.owner, mutex.handoff_to = False, None, None
         return 0, 0
 
     def acquire(self, k):
@@ -466,8 +375,6 @@ class Kernel:
         if semaphore.count > 0:
             semaphore.count -= 1
             return 0, 1
-        if FAULT == "try_acquire_blocks":
-            self.own().state = BLOCKED
         return 0, 0
 
     def release(self, k):
@@ -476,10 +383,9 @@ class Kernel:
         semaphore = self.semaphores[k]
         if semaphore.count == U32:
             return 19, 0
-        if not semaphore.queue or FAULT != "release_no_count":
-            semaphore.count += 1
+        semaphore.count += 1
         if semaphore.queue:
-            self.wake_id(self.drop_head(semaphore.queue))
+            self.wake_id(semaphore.queue.pop(0))
             return 0, 1
         return 0, 0
 
@@ -490,7 +396,7 @@ class Kernel:
             return 2, 0
         event = self.events[k]
         if event.signalled:
-            event.signalled = FAULT == "event_wait_keeps"
+            event.signalled = False
             return 0, 1
         if self.would_overflow(event.queue):
             return 12, 0
@@ -502,9 +408,7 @@ class Kernel:
             return 20, 0
         event = self.events[k]
         if event.queue:
-            woken = self.wake_id(self.drop_head(event.queue))
-            if FAULT == "signal_kept" and not woken:
-                event.signalled = True
+            self.wake_id(event.queue.pop(0))
             return 0, 1
         event.signalled = True
         return 0, 0
@@ -557,85 +461,85 @@ def fresh(hz, arena):
 
 
 DIGITS = frozenset(b"0123456789abcdef")
-USES_K = frozenset([0x01, *range(0x0A, 0x13)])
-USES_Y = frozenset([0x01, 0x04, 0x06, 0x07, 0x08, 0x09])
 
 
-class Turns:
-    """The machine under `turns`: a line in, an answer out."""
+def objects(call):
+    """An operation on the object k."""
+    return "k", lambda machine, k, y: getattr(machine.kernel, call)(k)
 
-    def __init__(self):
+
+# Operation: the operands that it uses, and what it does.
+TURNS = {
+    0x01: ("ky", lambda machine, k, y: machine.kernel.add(machine.arena, k, y >> 16, y & 0xFFFF)),
+    0x02: ("", lambda machine, k, y: machine.kernel.start()),
+    0x03: ("", lambda machine, k, y: machine.kernel.tick()),
+    0x04: ("y", lambda machine, k, y: machine.kernel.switch(machine.arena, y)),
+    0x05: ("", lambda machine, k, y: machine.kernel.exit()),
+    0x06: ("y", lambda machine, k, y: machine.kernel.wait(y)),
+    0x07: ("y", lambda machine, k, y: machine.kernel.reap(y)),
+    0x08: ("y", lambda machine, k, y: machine.kernel.sleep_ms(y)),
+    0x09: ("y", lambda machine, k, y: machine.kernel.wake(y)),
+    0x0A: objects("lock"), 0x0B: objects("unlock"), 0x0C: objects("try_lock"), 0x0D: objects("acquire"),
+    0x0E: objects("try_acquire"), 0x0F: objects("release"), 0x10: objects("event_wait"), 0x11: objects("signal"),
+    0x12: ("k", lambda machine, k, y: machine.kernel.status(k)),
+    0x13: ("", lambda machine, k, y: machine.kernel.block()),
+    0x14: ("", lambda machine, k, y: machine.kernel.reap_one()),
+}
+TABLES = {
+    **TURNS,
+    0x1B: ("k", lambda machine, k, y: machine.list(k)),
+    0x1C: ("", lambda machine, k, y: machine.kernel.current_id()),
+    0x1D: ("ky", lambda machine, k, y: machine.kernel.result(y, k - 256 if k >= 128 else k)),
+    0x1E: ("ky", lambda machine, k, y: machine.word(y, k)),
+    0x1F: ("y", lambda machine, k, y: machine.fresh(y)),
+}
+
+
+class Machine:
+    """What is under `turns` or `tables`: a line in, an answer out."""
+
+    def __init__(self, tables):
+        self.operations = TABLES if tables else TURNS
         self.arena = [0] * 4096
-        number, self.kernel = fresh(1000, self.arena)
-        assert number == 0
+        self.fresh(1000)
+
+    def fresh(self, hz):
+        number, kernel = fresh(hz, self.arena)
+        if number == 0:
+            self.kernel = kernel
+        return number, 0
+
+    def list(self, lent):
+        records = [None] * lent
+        number, written = self.kernel.list(self.arena, records)
+        if number == 0:
+            self.appended = " " + ";".join(",".join(map(str, record)) for record in records[:written])
+        return number, written
+
+    def word(self, at, what):
+        """No call: a word of the lent arena becomes 0 or the paint."""
+        if what > 1 or at >= len(self.arena):
+            return 0xFF, 0
+        self.arena[at] = PAINT if what else 0
+        return 0, 0
 
     def step(self, line):
-        """(operation or None, number, value) of a line, its line feed off."""
+        """(operation, number, value) of a line, its line feed off; no operation where it is not 12 digits. What is
+        appended to the answer is in self.appended."""
+        self.appended = ""
         if len(line) != 12 or not DIGITS.issuperset(line):
             return None, 0xFF, 0
         op, k, y = int(line[0:2], 16), int(line[2:4], 16), int(line[4:12], 16)
-        if not 0x01 <= op <= 0x14:
-            return None, 0xFF, 0
-        if (k and op not in USES_K) or (y and op not in USES_Y):
-            return None, 0xFF, 0
-        kernel = self.kernel
-        if op == 0x01:
-            number, value = kernel.add(self.arena, k, y >> 16, y & 0xFFFF)
-        elif op == 0x02:
-            number, value = kernel.start()
-        elif op == 0x03:
-            number, value = kernel.tick()
-        elif op == 0x04:
-            number, value = kernel.switch(self.arena, y)
-        elif op == 0x05:
-            number, value = kernel.exit()
-        elif op == 0x06:
-            number, value = kernel.wait(y)
-        elif op == 0x07:
-            number, value = kernel.reap(y)
-        elif op == 0x08:
-            number, value = kernel.sleep_ms(y)
-        elif op == 0x09:
-            number, value = kernel.wake(y)
-        elif op == 0x12:
-            number, value = kernel.status(k)
-        elif op == 0x13:
-            number, value = kernel.block()
-        elif op == 0x14:
-            number, value = kernel.reap_one()
-            if value is None:
-                value = 0xFFFFFFFF
-        else:
-            number, value = (kernel.lock, kernel.unlock, kernel.try_lock, kernel.acquire,
-                             kernel.try_acquire, kernel.release, kernel.event_wait,
-                             kernel.signal)[op - 0x0A](k)
-        return op, number, value
+        if op not in self.operations:
+            return op, 0xFF, 0
+        used, call = self.operations[op]
+        if k and "k" not in used or y and "y" not in used:
+            return op, 0xFF, 0
+        number, value = call(self, k, y)
+        return op, number, U32 if value is None else value
 
-    def more(self, line):
-        """The reference's lines beyond `turns`: current id, result, list, a word written."""
-        if len(line) != 12 or line[:2] not in (b"f0", b"f1", b"f2", b"f3"):
-            return None
-        op, k, y = int(line[0:2], 16), int(line[2:4], 16), int(line[4:12], 16)
-        kernel, number, value = self.kernel, 0, 0
-        if op == 0xF0:
-            number, value = kernel.current_id()
-        elif op == 0xF1:
-            number, value = kernel.result(y, k - 256 if k >= 128 else k)
-        elif op == 0xF2:
-            self.records = [None] * SLOTS
-            number, value = kernel.list(self.arena, self.records)
-        else:
-            low = y & 0xFFFF
-            self.arena[y >> 16] = PAINT if low == 0xFFFF else low
-        return op, number, value
-
-    def answer(self, line):
-        before = self.kernel.table() if CHECK else None
-        op, number, value = self.step(line)
-        if CHECK:
-            assert self.kernel.whole(), line
-            assert number == 0 or (value == 0 and self.kernel.table() == before), line
-        return op, number, value
+    def answer(self, number, value):
+        return f"{number:02x}{value:08x}{self.kernel.current:02x}{self.appended}\n"
 
 
 def lines_of(data):
@@ -646,29 +550,29 @@ def lines_of(data):
     return lines
 
 
-def run(data, with_tables, out):
-    machine = Turns()
+def run(data, tables, out):
+    """Appends what `turns` or `tables` prints, line by line, and gives the pairs of operation and number that were met."""
+    machine, table, met = Machine(tables), None, set()
     for line in lines_of(data):
-        _, number, value = machine.answer(line)
-        out.append(f"{number:02x}{value:08x}{machine.kernel.current:02x}\n")
-        if with_tables:
-            out.append(machine.kernel.table() + "\n")
+        op, number, value = machine.step(line)
+        met.add((op, number))
+        out.append(machine.answer(number, value))
+        if tables:
+            if number == 0 or table is None:    # a refusal alters nothing
+                table = machine.kernel.table() + "\n"
+            out.append(table)
+    return met
 
 
 def replay(data, out):
-    machine = Turns()
+    machine = Machine(True)
     for line in lines_of(data):
         if line == b"new":
-            machine = Turns()
+            machine = Machine(True)
             out.append("new\n")
             continue
-        op, number, value = machine.more(line) or machine.answer(line)
-        if op in (0x0F, 0x11):
-            value = 0
-        out.append(f"{number:02x}{value:08x}{machine.kernel.current:02x}\n")
-        if op == 0xF2:
-            records = machine.records[:value]
-            out.append("list " + ";".join(",".join(map(str, r)) for r in records) + "\n")
+        op, number, value = machine.step(line)
+        out.append(machine.answer(number, 0 if op in (0x0F, 0x11) else value))
         out.append(machine.kernel.table(charges=False) + "\n")
 
 
@@ -689,22 +593,13 @@ class Out:
 
 
 def main():
-    out = Out()
-    mode = sys.argv[1] if len(sys.argv) == 2 else ""
-    if mode not in ("turns", "tables", "replay", "ticks", "pick"):
+    if sys.argv[1:] not in (["turns"], ["tables"], ["replay"]):
         sys.exit(__doc__)
-    data = sys.stdin.buffer.read()
-    if mode == "replay":
+    data, out = sys.stdin.buffer.read(), Out()
+    if sys.argv[1] == "replay":
         replay(data, out)
-    elif mode == "ticks":
-        for line in lines_of(data):
-            out.append(f"{ms_to_ticks(*map(int, line.split()))}\n")
-    elif mode == "pick":
-        for line in lines_of(data):
-            given = bytes.fromhex(line.decode())
-            out.append(f"{exported_pick(given[:16], given[16:32], given[32]):02x}\n")
     else:
-        run(data, mode == "tables", out)
+        run(data, sys.argv[1] == "tables", out)
     out.flush()
 
 

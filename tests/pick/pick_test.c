@@ -1,13 +1,13 @@
 /* The exported pick, linked as the course's simulator links it: the exam's cases, every refusal, and random tables against a plain search. */
-#include <stddef.h>
-#include <stdint.h>
 #include <stdio.h>
 #include <string.h>
+#include "tibsulan.h"
 
-/* A slice is a pointer and a length. */
-extern uint8_t pick(const uint8_t *states, size_t states_len, const uint8_t *priorities, size_t priorities_len, uint8_t current);
-
+/* Written out again, so that the header's figures are tested too. */
 enum { SLOTS = 16, EMPTY = 6, REFUSED = 255, TABLES = 100000 };
+_Static_assert(TIBSULAN_SLOTS == SLOTS && TIBSULAN_EMPTY == EMPTY && TIBSULAN_REFUSED == REFUSED, "tibsulan.h");
+_Static_assert(TIBSULAN_READY == 0 && TIBSULAN_RUNNING == 1 && TIBSULAN_BLOCKED == 2, "tibsulan.h");
+_Static_assert(TIBSULAN_SLEEPING == 3 && TIBSULAN_SUSPENDED == 4 && TIBSULAN_TERMINATED == 5, "tibsulan.h");
 
 static unsigned failed;
 

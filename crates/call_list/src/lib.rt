@@ -12,7 +12,7 @@ use leaf_table::internal::answer;
 ghost use mathlib.Core.Path.{_≡_};
 ghost use mathlib.Core.Bool.{true};
 ghost use mathlib.Core.List.{_++_};
-ghost use Prim.Native.Nat.{_+_, _/_, _<_, _≤_};
+ghost use Prim.Native.Nat.{_+_, _-_, _/_, _<_, _≤_, min};
 ghost use lib.Dec.{eqb};
 ghost use lib.ListN.{length, getD, take, drop, replicate};
 ghost use Rattle.base.specs.Choice.{if_then_else_};
@@ -180,7 +180,7 @@ pub fn tasks(k: Kernel, arena: &[u32], records: &mut [TaskInfo]) -> Answer
     answered(k, p.number)
 }
 
-// A list call on sixteen blank records, which no task is too many for.
+// The answer of a list call, and the records that it was made on.
 pub struct Listed {
     pub answer: Answer,
     pub records: [TaskInfo; Kernel::MAX_TASKS],
@@ -192,10 +192,30 @@ fn packed(answer: Answer, records: [TaskInfo; Kernel::MAX_TASKS]) -> Listed
     Listed { answer, records }
 }
 
-pub fn list_all(k: Kernel, arena: &[u32]) -> Listed
-    ensures { λ r. ⌜ (r .answer ≡ step k (list (now (arena .entry)) (replicate 16 blankInfo))) × (r .records ≡ listRecords k (now (arena .entry)) (replicate 16 blankInfo)) ⌝ }
+// The smaller of `room` and sixteen.
+fn capped(room: usize) -> usize
+    ensures { λ r. ⌜ r ≡ min room 16 ⌝ }
+{
+    if room > Kernel::MAX_TASKS {
+        return Kernel::MAX_TASKS;
+    }
+    room
+}
+
+// The first `n` of sixteen blank records are lent.
+fn list_in(k: Kernel, arena: &[u32], n: usize) -> Listed
+    requires { ⌜ n ≤ 16 ⌝ }
+    ensures { λ r. ⌜ (r .answer ≡ step k (list (now (arena .entry)) (replicate n blankInfo))) × (r .records ≡ listRecords k (now (arena .entry)) (replicate n blankInfo) ++ replicate (16 - n) blankInfo) ⌝ }
 {
     let mut out = blanks();
-    let answer = tasks(k, arena, &mut out);
+    let answer = tasks(k, arena, &mut out[..n]);
     packed(answer, out)
+}
+
+// A list call on `room` blank records, sixteen where `room` is more; the records after them are blank.
+pub fn list_up_to(k: Kernel, arena: &[u32], room: usize) -> Listed
+    ensures { λ r. ⌜ (r .answer ≡ step k (list (now (arena .entry)) (replicate (min room 16) blankInfo))) × (r .records ≡ listRecords k (now (arena .entry)) (replicate (min room 16) blankInfo) ++ replicate (16 - min room 16) blankInfo) ⌝ }
+{
+    let n = capped(room);
+    list_in(k, arena, n)
 }

@@ -1,23 +1,89 @@
 // A frame played on a kernel. Where `known` is true the caller knows that the kernel is whole, so it is not looked at again.
 use kernel::control::Priority;
 use kernel::control::StackRegion;
+use kernel::control::TaskControl;
 use kernel::control::TaskId;
 use kernel::scheduler::Answer;
 use kernel::scheduler::Kernel;
+use kernel::scheduler::Value;
 use leaf_table::internal::answer;
 use line_frame::Frame;
 use line_frame::Operation;
 ghost use mathlib.Core.Path.{_≡_};
 ghost use mathlib.Core.Bool.{true, _||_, not};
+ghost use Prim.Native.Nat.{_+_, _≤_};
+ghost use lib.ListN.{length, set};
 ghost use Rattle.kernel.specs.Kernel.{whole};
-ghost use Rattle.line_dispatch.specs.Dispatch.{answerTo, wordsAfter};
+ghost use Rattle.kernel.specs.Calls.{initWords};
+ghost use Rattle.line_text.specs.Text.{Writes};
+ghost use Rattle.line_dispatch.specs.Dispatch.{signedByte, wordOf, freshFor, listAnswer, listAdds, answerTo, wordsAfter, addedTo};
 
 // What stands for the number where a line asks for no call.
 const NO_CALL: u8 = 255;
 
-pub fn dispatch(k: Kernel, known: bool, f: Frame, arena: &mut [u32]) -> Answer
-    requires { ⌜ (not known || whole k) ≡ true ⌝ }
-    ensures { λ r. ⌜ (r ≡ answerTo k (now (arena .entry)) f) × (now (arena .exit) ≡ wordsAfter k (now (arena .entry)) f) ⌝ }
+// A signed byte.
+fn signed(k: u8) -> i32
+    ensures { λ r. ⌜ r ≡ signedByte k ⌝ }
+{
+    if k < 128 {
+        return k as i32;
+    }
+    k as i32 - 256
+}
+
+// What a word becomes.
+fn word_of(k: u8) -> u32
+    ensures { λ r. ⌜ r ≡ wordOf k ⌝ }
+{
+    if k == 0 { 0 } else { TaskControl::STACK_MAGIC }
+}
+
+fn set_word(arena: &mut [u32], at: usize, word: u32)
+    ensures { λ _. ⌜ now (arena .exit) ≡ set (now (arena .entry)) at word ⌝ }
+{
+    if at < arena.len() {
+        arena[at] = word;
+    }
+}
+
+// A fresh kernel takes the place of k, unless it is refused.
+fn init(k: Kernel, hz: u32, arena: &mut [u32]) -> Answer
+    ensures { λ r. ⌜ (r ≡ freshFor k hz (length (now (arena .entry)))) × (now (arena .exit) ≡ initWords hz (now (arena .entry))) ⌝ }
+{
+    let a = call_init::init(hz, arena);
+    if a.number != 0 {
+        return answer::refused(a.number, k);
+    }
+    a
+}
+
+// A list call on that many records; what it adds to its answer is written into `out`.
+fn list(k: Kernel, room: usize, arena: &[u32], out: &mut [u8], at: &mut usize) -> Answer
+    requires { ⌜ now at + 1681 ≤ length (now out) ⌝ }
+    ensures { λ r. ⌜ (r ≡ listAnswer k (now (arena .entry)) room) × Writes (now (out .entry)) (now (at .entry)) (listAdds k (now (arena .entry)) room) (now (out .exit)) (now (at .exit)) ⌝ }
+    ensures short { λ r. ⌜ now (at .exit) ≤ now (at .entry) + 1681 ⌝ }
+{
+    let listed = call_list::list_up_to(k, arena, room);
+    let answer = listed.answer;
+    if answer.number == 0 {
+        let records = listed.records;
+        *at = line_records::internal::put_list(out, *at, records, k.task_count);
+    }
+    answer
+}
+
+// What the line adds to its answer is written into `out`, and `at` moves behind it.
+pub fn dispatch(
+    k: Kernel,
+    known: bool,
+    f: Frame,
+    arena: &mut [u32],
+    out: &mut [u8],
+    at: &mut usize,
+) -> Answer
+    requires { ⌜ ((not known || whole k) ≡ true) × (now at + 1681 ≤ length (now out)) ⌝ }
+    ensures { λ r. ⌜ (r ≡ answerTo k (now (arena .entry)) f) × (now (arena .exit) ≡ wordsAfter k (now (arena .entry)) f) × Writes (now (out .entry)) (now (at .entry)) (addedTo k (now (arena .entry)) f) (now (out .exit)) (now (at .exit)) ⌝ }
+    ensures short { λ r. ⌜ now (at .exit) ≤ now (at .entry) + 1681 ⌝ }
 {
     let operation = f.operation;
     let id = TaskId(f.y);
@@ -54,5 +120,13 @@ pub fn dispatch(k: Kernel, known: bool, f: Frame, arena: &mut [u32]) -> Answer
         Operation::Status => call_status::internal::set_current_task_status(k, known, f.k),
         Operation::Block => call_status::internal::block_current_task(k, known),
         Operation::ReapOne => call_reap::internal::reap_one(k, known),
+        Operation::List => list(k, object, arena, out, at),
+        Operation::CurrentId => call_status::current_task_id(k),
+        Operation::Result => call_wake::set_syscall_result(k, id, signed(f.k)),
+        Operation::Word => {
+            set_word(arena, f.y as usize, word_of(f.k));
+            answer::accepted(Value::Nothing, k)
+        },
+        Operation::Init => init(k, f.y, arena),
     }
 }

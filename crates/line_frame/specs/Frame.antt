@@ -1,4 +1,4 @@
--- A line of the notation of `turns`, and the frame that it writes (01, "Program `turns`").
+-- A line of the notation of `turns` or `tables`, and the frame that it writes (01, "Program `turns`"; README, "The notation").
 use Prim.Native.Nat.{ℕ, _+_, _-_, _*_}
 use mathlib.Core.Bool.{Bool, _&&_, _||_, not}
 use mathlib.Core.List.{List, [], _∷_}
@@ -6,7 +6,7 @@ use lib.Dec.{eqb, leb, ltb}
 use lib.ListN.{getD, set, replicate}
 use Rattle.base.specs.Choice.{if_then_else_, every}
 use Rattle.line_frame.specs.declared.Operation.{Operation}
-use Rattle.line_frame.specs.declared.Operation.the-variants.{Unknown, Add, Start, Tick, Switch, Exit, Wait, Reap, Sleep, Wake, Lock, Unlock, TryLock, Acquire, TryAcquire, Release, EventWait, Signal, Status, Block, ReapOne}
+use Rattle.line_frame.specs.declared.Operation.the-variants.{Unknown, Add, Start, Tick, Switch, Exit, Wait, Reap, Sleep, Wake, Lock, Unlock, TryLock, Acquire, TryAcquire, Release, EventWait, Signal, Status, Block, ReapOne, CurrentId, Result, Word, Init}
 use Rattle.line_frame.specs.declared.Frame.{Frame}
 use Rattle.line_frame.specs.declared.Line.{Line}
 
@@ -44,20 +44,25 @@ isHex l = every (eqb (l .len) 12 ∷ ltb (byteAt l 0) 256 ∷ ltb (byteAt l 1) 2
 
 -- ---- its operation and its operands
 
--- in the order of their numbers, from 00
+-- in the order of their numbers, from 00, which is none; so are 15 to 1a
 abbrev pub operations : List Operation
-operations = Unknown ∷ Add ∷ Start ∷ Tick ∷ Switch ∷ Exit ∷ Wait ∷ Reap ∷ Sleep ∷ Wake ∷ Lock ∷ Unlock ∷ TryLock ∷ Acquire ∷ TryAcquire ∷ Release ∷ EventWait ∷ Signal ∷ Status ∷ Block ∷ ReapOne ∷ []
+operations = Unknown ∷ Add ∷ Start ∷ Tick ∷ Switch ∷ Exit ∷ Wait ∷ Reap ∷ Sleep ∷ Wake ∷ Lock ∷ Unlock ∷ TryLock ∷ Acquire ∷ TryAcquire ∷ Release ∷ EventWait ∷ Signal ∷ Status ∷ Block ∷ ReapOne ∷ Unknown ∷ Unknown ∷ Unknown ∷ Unknown ∷ Unknown ∷ Unknown ∷ Operation.List ∷ CurrentId ∷ Result ∷ Word ∷ Init ∷ []
 
-abbrev pub operationOf : ℕ → Operation
-operationOf n = getD operations n Unknown
+-- `turns` has those up to 14
+unfoldable pub operationOf : Bool → ℕ → Operation
+operationOf tables n = if tables || leb n 0x14 then getD operations n Unknown else Unknown
 
--- add, the calls on objects and status
+-- add, the calls on objects and status; list, result and word
 abbrev pub usesK : ℕ → Bool
-usesK operation = eqb operation 0x01 || (leb 0x0a operation && leb operation 0x12)
+usesK operation = eqb operation 0x01 || (leb 0x0a operation && leb operation 0x12) || eqb operation 0x1b || eqb operation 0x1d || eqb operation 0x1e
 
--- add, switch, and 06 to 09: wait, reap, sleep, wake
+-- add, switch, and 06 to 09: wait, reap, sleep, wake; 1d to 1f: result, word, fresh
 abbrev pub usesY : ℕ → Bool
-usesY operation = eqb operation 0x01 || eqb operation 0x04 || (leb 0x06 operation && leb operation 0x09)
+usesY operation = eqb operation 0x01 || eqb operation 0x04 || (leb 0x06 operation && leb operation 0x09) || (leb 0x1d operation && leb operation 0x1f)
+
+-- a word of 4,096, which becomes 0 or the paint
+abbrev pub wordFits : ℕ → ℕ → Bool
+wordFits k y = leb k 1 && leb y 4095
 
 abbrev pub kOf : Line → ℕ
 kOf l = byteAt l 1
@@ -66,17 +71,17 @@ kOf l = byteAt l 1
 abbrev pub yOf : Line → ℕ
 yOf l = ((byteAt l 2 * 256 + byteAt l 3) * 256 + byteAt l 4) * 256 + byteAt l 5
 
--- an operand that the operation does not use is 0
+-- an operand that the operation does not use is 0, and those of a word are in range
 unfoldable pub operandsFit : ℕ → ℕ → ℕ → Bool
-operandsFit operation k y = (usesK operation || eqb k 0) && (usesY operation || eqb y 0)
+operandsFit operation k y = (usesK operation || eqb k 0) && (usesY operation || eqb y 0) && (not (eqb operation 0x1e) || wordFits k y)
 
 -- what stands for a line that is no frame
 abbrev pub malformed : Frame
 malformed = record { operation = Unknown; k = 0; y = 0 }
 
 -- 12 lowercase hex digits: operation, k, y; any other line is malformed, one with an unused operand above 0 too
-unfoldable pub frameOf : Line → Frame
-frameOf l =
+unfoldable pub frameOf : Bool → Line → Frame
+frameOf tables l =
     if not (isHex l) then malformed
     else if not (operandsFit (byteAt l 0) (kOf l) (yOf l)) then malformed
-    else record { operation = operationOf (byteAt l 0); k = kOf l; y = yOf l }
+    else record { operation = operationOf tables (byteAt l 0); k = kOf l; y = yOf l }

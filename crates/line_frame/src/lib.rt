@@ -1,10 +1,11 @@
-// A line of the notation of `turns`, and the frame that it writes: operation, k and y.
+// A line of the notation of `turns` or `tables`, and the frame that it writes: operation, k and y.
 ghost use mathlib.Core.Path.{_≡_};
 ghost use mathlib.Core.Bool.{true};
 ghost use Prim.Native.Nat.{_+_, _*_, _<_};
-ghost use Rattle.line_frame.specs.Frame.{emptyLine, digit, byteOf, byteAt, isHex, operationOf, usesK, usesY, yOf, operandsFit, malformed, frameOf};
+ghost use lib.ListN.{getD};
+ghost use Rattle.line_frame.specs.Frame.{emptyLine, digit, byteOf, byteAt, isHex, operations, operationOf, usesK, usesY, wordFits, yOf, operandsFit, malformed, frameOf};
 
-// The operations in the order of their numbers; 0x00 and those past 0x14 are unknown.
+// The operations in the order of their numbers: 0x01 to 0x14, which `turns` has, and 0x1b to 0x1f, which `tables` has too.
 pub enum Operation {
     Unknown,
     Add,
@@ -27,6 +28,11 @@ pub enum Operation {
     Status,
     Block,
     ReapOne,
+    List,
+    CurrentId,
+    Result,
+    Word,
+    Init,
 }
 
 pub struct Frame {
@@ -49,6 +55,14 @@ const LETTERS: u8 = b'a' - 10;
 
 // How many bytes there are; it stands for none of them.
 const BYTES: u32 = 256;
+
+// The last operation of `turns`.
+const REAP_ONE: u32 = 0x14;
+
+const WORD: u32 = 0x1e;
+
+// The last word of the programs' arena.
+const LAST_WORD: u32 = 4095;
 
 fn digit(b: u8) -> u32
     ensures { λ r. ⌜ r ≡ digit b ⌝ }
@@ -73,8 +87,8 @@ fn byte_of(high: u8, low: u8) -> u32
     BYTES
 }
 
-fn operation_of(n: u32) -> Operation
-    ensures { λ r. ⌜ r ≡ operationOf n ⌝ }
+fn numbered(n: u32) -> Operation
+    ensures { λ r. ⌜ r ≡ getD operations n Operation.Unknown ⌝ }
 {
     match n {
         1 => Operation::Add,
@@ -97,27 +111,57 @@ fn operation_of(n: u32) -> Operation
         18 => Operation::Status,
         19 => Operation::Block,
         20 => Operation::ReapOne,
+        27 => Operation::List,
+        28 => Operation::CurrentId,
+        29 => Operation::Result,
+        30 => Operation::Word,
+        31 => Operation::Init,
         _ => Operation::Unknown,
     }
+}
+
+fn operation_of(tables: bool, n: u32) -> Operation
+    ensures { λ r. ⌜ r ≡ operationOf tables n ⌝ }
+{
+    if tables | (n <= REAP_ONE) {
+        return numbered(n);
+    }
+    Operation::Unknown
 }
 
 fn uses_k(operation: u32) -> bool
     ensures { λ r. ⌜ r ≡ usesK operation ⌝ }
 {
-    (operation == 1) | ((10 <= operation) & (operation <= 18))
+    (operation == 1)
+        | ((10 <= operation) & (operation <= 18))
+        | (operation == 27)
+        | (operation == 29)
+        | (operation == 30)
 }
 
 fn uses_y(operation: u32) -> bool
     ensures { λ r. ⌜ r ≡ usesY operation ⌝ }
 {
-    (operation == 1) | (operation == 4) | ((6 <= operation) & (operation <= 9))
+    (operation == 1)
+        | (operation == 4)
+        | ((6 <= operation) & (operation <= 9))
+        | ((29 <= operation) & (operation <= 31))
 }
 
-// Whether each operand that the operation does not use is 0.
+// Whether k and y name a word of the arena and what it can become.
+fn word_fits(k: u32, y: u32) -> bool
+    ensures { λ r. ⌜ r ≡ wordFits k y ⌝ }
+{
+    (k <= 1) & (y <= LAST_WORD)
+}
+
+// Whether each operand that the operation does not use is 0, and those of a word are in range.
 fn operands_fit(operation: u32, k: u32, y: u32) -> bool
     ensures { λ r. ⌜ r ≡ operandsFit operation k y ⌝ }
 {
-    (uses_k(operation) | (k == 0)) & (uses_y(operation) | (y == 0))
+    (uses_k(operation) | (k == 0))
+        & (uses_y(operation) | (y == 0))
+        & ((operation != WORD) | word_fits(k, y))
 }
 
 fn word(a: u32, b: u32, c: u32, d: u32) -> u32
@@ -127,11 +171,11 @@ fn word(a: u32, b: u32, c: u32, d: u32) -> u32
     ((a * BYTES + b) * BYTES + c) * BYTES + d
 }
 
-fn framed(operation: u32, k: u32, y: u32) -> Frame
+fn framed(tables: bool, operation: u32, k: u32, y: u32) -> Frame
     requires { ⌜ k < 256 ⌝ }
-    ensures { λ r. ⌜ r ≡ record { operation = operationOf operation; k = k; y = y } ⌝ }
+    ensures { λ r. ⌜ r ≡ record { operation = operationOf tables operation; k = k; y = y } ⌝ }
 {
-    let operation = operation_of(operation);
+    let operation = operation_of(tables, operation);
     Frame {
         operation,
         k: k as u8,
@@ -197,8 +241,9 @@ impl Line {
         )
     }
 
-    pub fn frame(self) -> Frame
-        ensures { λ r. ⌜ r ≡ frameOf self ⌝ }
+    // In the notation of `tables`, or of `turns`.
+    pub fn frame(self, tables: bool) -> Frame
+        ensures { λ r. ⌜ r ≡ frameOf tables self ⌝ }
     {
         if !self.is_hex() {
             return Frame::malformed();
@@ -209,6 +254,6 @@ impl Line {
         if !operands_fit(operation, k, y) {
             return Frame::malformed();
         }
-        framed(operation, k, y)
+        framed(tables, operation, k, y)
     }
 }

@@ -8,8 +8,8 @@ use native.Mathlib.Nat.{mul-le-mul-left, mul-suc}
 use native.Mathlib.Numerals.{add-one}
 use borrow.Author.Tests.{eq-eqb, ne-eqb, lt-ltb, le-ltb}
 use lib.Dec.{eqb}
-use lib.ListN.{length, take, getD, set}
-use lib.Seq.{take-suc, take-all}
+use lib.ListN.{length, take, drop, getD, set, length-take}
+use lib.Seq.{take-suc, take-all, sets-eq, take-append-seam}
 use Rattle.base.proofs.Choices.{taken, left}
 use Rattle.line_text.specs.Text.{Writes}
 use Rattle.line_text.proofs.Writing.{nothing-written, written-then, same-text}
@@ -17,29 +17,29 @@ use Rattle.kernel.specs.declared.scheduler.Kernel.{Kernel}
 use Rattle.line_frame.specs.declared.Line.{Line}
 use Rattle.line_frame.specs.Frame.{emptyLine, lengthened, frameOf}
 use Rattle.kernel.specs.declared.scheduler.Answer.{Answer}
-use Rattle.line_answer.specs.AnswerLine.{answerLine}
+use Rattle.line_answer.specs.AnswerLine.{answerDigits}
 use Rattle.line_table.specs.TableLine.{tableLine}
-use Rattle.line_dispatch.specs.Dispatch.{answerTo, wordsAfter}
+use Rattle.line_dispatch.specs.Dispatch.{answerTo, wordsAfter, addedTo}
 use Rattle.line_session.specs.declared.Session.{Session}
 use Rattle.line_session.specs.declared.Played.{Played}
 use Rattle.line_session.specs.Session.{fed, fedArena, said, after, afterArena, replies, reply, replyRoom, Plays}
 
 -- ---- the definitions over two inputs, one after the other: it does not matter where an input is parted
 
-pub after-append : (bs cs : List ℕ) (s : Session) (arena : List ℕ) → after s arena (bs ++ cs) ≡ after (after s arena bs) (afterArena s arena bs) cs
+pub after-append : (tables : Bool) (bs cs : List ℕ) (s : Session) (arena : List ℕ) → after tables s arena (bs ++ cs) ≡ after tables (after tables s arena bs) (afterArena tables s arena bs) cs
 unfolding after afterArena
-after-append [] cs s arena = refl
-after-append (x ∷ bs) cs s arena = after-append bs cs (fed s arena x) (fedArena s arena x)
+after-append tables [] cs s arena = refl
+after-append tables (x ∷ bs) cs s arena = after-append tables bs cs (fed tables s arena x) (fedArena tables s arena x)
 
-pub arena-append : (bs cs : List ℕ) (s : Session) (arena : List ℕ) → afterArena s arena (bs ++ cs) ≡ afterArena (after s arena bs) (afterArena s arena bs) cs
+pub arena-append : (tables : Bool) (bs cs : List ℕ) (s : Session) (arena : List ℕ) → afterArena tables s arena (bs ++ cs) ≡ afterArena tables (after tables s arena bs) (afterArena tables s arena bs) cs
 unfolding after afterArena
-arena-append [] cs s arena = refl
-arena-append (x ∷ bs) cs s arena = arena-append bs cs (fed s arena x) (fedArena s arena x)
+arena-append tables [] cs s arena = refl
+arena-append tables (x ∷ bs) cs s arena = arena-append tables bs cs (fed tables s arena x) (fedArena tables s arena x)
 
-pub replies-append : (tables : Bool) (bs cs : List ℕ) (s : Session) (arena : List ℕ) → replies tables s arena (bs ++ cs) ≡ replies tables s arena bs ++ replies tables (after s arena bs) (afterArena s arena bs) cs
+pub replies-append : (tables : Bool) (bs cs : List ℕ) (s : Session) (arena : List ℕ) → replies tables s arena (bs ++ cs) ≡ replies tables s arena bs ++ replies tables (after tables s arena bs) (afterArena tables s arena bs) cs
 unfolding after afterArena replies
 replies-append tables [] cs s arena = refl
-replies-append tables (x ∷ bs) cs s arena = ap (λ (l : List ℕ). said tables s arena x ++ l) (replies-append tables bs cs (fed s arena x) (fedArena s arena x)) ∙ sym (append-assoc (said tables s arena x) _ _)
+replies-append tables (x ∷ bs) cs s arena = ap (λ (l : List ℕ). said tables s arena x ++ l) (replies-append tables bs cs (fed tables s arena x) (fedArena tables s arena x)) ∙ sym (append-assoc (said tables s arena x) _ _)
 
 one-reply : (tables : Bool) (s : Session) (arena : List ℕ) (b : ℕ) → said tables s arena b ≡ replies tables s arena (b ∷ [])
 unfolding replies
@@ -58,13 +58,13 @@ pub both : {A : Type 0} (f : Session → List ℕ → A) {x y : Session} {a b : 
 both f {x} {y} {a} {b} e e′ = ap (λ (z : Session). f z a) e ∙ ap (f y) e′
 
 played-byte : {tables : Bool} {s : Session} {arena bs arena′ arena″ out out′ out″ : List ℕ} {p q : Played} (b : ℕ) → Plays tables s arena bs arena′ out out′ p
-    → q .session ≡ fed (p .session) arena′ b → arena″ ≡ fedArena (p .session) arena′ b → Writes out′ (p .len) (said tables (p .session) arena′ b) out″ (q .len)
+    → q .session ≡ fed tables (p .session) arena′ b → arena″ ≡ fedArena tables (p .session) arena′ b → Writes out′ (p .len) (said tables (p .session) arena′ b) out″ (q .len)
     → Plays tables s arena (bs ++ b ∷ []) arena″ out out″ q
 unfolding after afterArena
 played-byte {tables} {s} {arena} {bs} {arena′} {arena″} {out} {out′} {out″} {p} {q} b before session words text =
     record {
-      session = session ∙ both (λ x a. fed x a b) (before .session) (before .words) ∙ sym (after-append bs (b ∷ []) s arena);
-      words = words ∙ both (λ x a. fedArena x a b) (before .session) (before .words) ∙ sym (arena-append bs (b ∷ []) s arena);
+      session = session ∙ both (λ x a. fed tables x a b) (before .session) (before .words) ∙ sym (after-append tables bs (b ∷ []) s arena);
+      words = words ∙ both (λ x a. fedArena tables x a b) (before .session) (before .words) ∙ sym (arena-append tables bs (b ∷ []) s arena);
       written =
           same-text (sym (replies-append tables bs (b ∷ []) s arena))
           (written-then _ _ (before .written) (same-text (one-reply tables (p .session) arena′ b ∙ both (λ x a. replies tables x a (b ∷ [])) (before .session) (before .words)) text));
@@ -97,6 +97,16 @@ long-line l b h = left _ _ _ _ (le-ltb (l .len) 12 h) refl
 pub written-as : {out out′ out″ text : List ℕ} {at m n : ℕ} → out″ ≡ out′ → n ≡ m → Writes out at text out′ m → Writes out at text out″ n
 written-as e e′ w = record { bytes = e ∙ w .bytes; place = e′ ∙ w .place }
 
+-- what is written from the start on stands there
+pub written-first : {out out′ : List ℕ} {n : ℕ} (t : List ℕ) → Writes out 0 t out′ n → n ≤ length out → take n out′ ≡ t
+written-first {out} {out′} {n} t w fits =
+    let place : n ≡ length t = omega (arith, w .place) in
+    let is : out′ ≡ t ++ drop (0 + length t) out = w .bytes ∙ sets-eq t out 0 (omega (arith, w .place)) in
+    rw (place, is) (take-append-seam t _)
+
+pub first-length : (n most : ℕ) (l : List ℕ) → n ≤ most → length (take n l) ≤ most
+first-length n most l h = omega (arith, length-take n l)
+
 one-more : (input : List ℕ) (i : ℕ) → i < length input → take i input ++ getD input i 0 ∷ [] ≡ take (i + 1) input
 one-more input i lt = sym (ap (λ (j : ℕ). take j input) (add-one i) ∙ take-suc input i 0 lt)
 
@@ -113,7 +123,7 @@ played-more {tables} {s} {arena} {arena′} {arena″} {out} {out′} {out″} i
 
 pub played-line : {tables : Bool} {s : Session} {arena arena′ arena″ out out′ out″ : List ℕ} (input : List ℕ) (i : ℕ) {k k′ : Kernel} {l l′ : Line} {n m : ℕ} → i < length input → getD input i 0 ≡ 10
     → Plays tables s arena (take i input) arena′ out out′ (of k l n)
-    → k′ ≡ answerTo k arena′ (frameOf l) .kernel → l′ ≡ emptyLine → arena″ ≡ wordsAfter k arena′ (frameOf l) → Writes out′ n (reply tables (answerTo k arena′ (frameOf l))) out″ m
+    → k′ ≡ answerTo k arena′ (frameOf tables l) .kernel → l′ ≡ emptyLine → arena″ ≡ wordsAfter k arena′ (frameOf tables l) → Writes out′ n (reply tables (answerTo k arena′ (frameOf tables l)) (addedTo k arena′ (frameOf tables l))) out″ m
     → Plays tables s arena (take (i + 1) input) arena″ out out″ (of k′ l′ m)
 unfolding fed fedArena said
 played-line {tables} {s} {arena} {arena′} {arena″} {out} {out′} {out″} input i {k} {k′} {l} {l′} {n} {m} lt line-feed before kernel line words text =
@@ -130,20 +140,23 @@ played-all input i l before = same-bytes (take-all i input l) before
 pub no-table : (tables : Bool) → tables ≡ false → replyRoom tables ≡ 13
 no-table tables e = sym (left _ _ _ _ e refl)
 
-pub with-table : (tables : Bool) → tables ≡ true → replyRoom tables ≡ 7213
+pub with-table : (tables : Bool) → tables ≡ true → replyRoom tables ≡ 8894
 with-table tables e = sym (taken _ _ _ _ e refl)
 
 pub answer-room : (tables : Bool) → 13 ≤ replyRoom tables
 answer-room true = omega (arith, with-table true refl)
 answer-room false = omega (arith, no-table false refl)
 
-pub answer-alone : (tables : Bool) (a : Answer) → tables ≡ false → answerLine a ≡ reply tables a
+pub answer-alone : (tables : Bool) (a : Answer) (added : List ℕ) → tables ≡ false → answerDigits a ++ (10 ∷ []) ≡ reply tables a added
 unfolding reply
-answer-alone tables a e = sym (ap (λ (t : List ℕ). answerLine a ++ t) (sym (left _ _ _ _ e refl)) ∙ append-nil (answerLine a))
+answer-alone tables a added e = ap (λ (t : List ℕ). answerDigits a ++ t) (left _ _ _ _ e refl)
 
-pub answer-and-table : (tables : Bool) (a : Answer) → tables ≡ true → answerLine a ++ tableLine (a .kernel) ≡ reply tables a
+pub answer-and-table : (tables : Bool) (a : Answer) (added : List ℕ) → tables ≡ true → ((answerDigits a ++ added) ++ (10 ∷ [])) ++ tableLine (a .kernel) ≡ reply tables a added
 unfolding reply
-answer-and-table tables a e = ap (λ (t : List ℕ). answerLine a ++ t) (taken _ _ _ _ e refl)
+answer-and-table tables a added e = append-assoc (answerDigits a ++ added) (10 ∷ []) _ ∙ append-assoc (answerDigits a) added _ ∙ ap (λ (t : List ℕ). answerDigits a ++ t) (taken _ _ _ _ e refl)
+
+pub same-reply : (tables : Bool) {a b : Answer} {t u : List ℕ} → a ≡ b → t ≡ u → reply tables a t ≡ reply tables b u
+same-reply tables {a} {b} {t} {u} e e′ = ap (λ (x : Answer). reply tables x t) e ∙ ap (reply tables b) e′
 
 -- ---- room
 

@@ -1,4 +1,4 @@
--- What the programs `turns` and `tables` make of their input, byte by byte (01, "Program `turns`").
+-- What the programs `turns` and `tables` make of their input, byte by byte (01, "Program `turns`"; README, "The notation").
 use Prim.Native.Nat.{ℕ}
 use mathlib.Core.Path.{_≡_}
 use mathlib.Core.Bool.{Bool}
@@ -8,10 +8,11 @@ use lib.ListN.{replicate}
 use Rattle.base.specs.Choice.{if_then_else_}
 use Rattle.kernel.specs.declared.scheduler.Answer.{Answer}
 use Rattle.kernel.specs.Calls.{init, initWords}
+use Rattle.line_frame.specs.declared.Frame.{Frame}
 use Rattle.line_frame.specs.Frame.{emptyLine, lengthened, frameOf}
 use Rattle.line_text.specs.Text.{Writes}
-use Rattle.line_dispatch.specs.Dispatch.{answerTo, wordsAfter}
-use Rattle.line_answer.specs.AnswerLine.{answerLine}
+use Rattle.line_dispatch.specs.Dispatch.{answerTo, wordsAfter, addedTo}
+use Rattle.line_answer.specs.AnswerLine.{answerDigits}
 use Rattle.line_table.specs.TableLine.{tableLine}
 use Rattle.line_session.specs.declared.Session.{Session}
 use Rattle.line_session.specs.declared.Played.{Played}
@@ -22,52 +23,56 @@ opened words = record { kernel = init 1000 words .kernel; line = emptyLine }
 
 -- ---- a line
 
--- the answer to the line so far
-abbrev pub answerOf : Session → List ℕ → Answer
-answerOf s arena = answerTo (s .kernel) arena (frameOf (s .line))
+-- the frame of the line so far, in the notation of `tables` or of `turns`
+abbrev pub frameIn : Bool → Session → Frame
+frameIn tables s = frameOf tables (s .line)
 
--- the answer's line; `tables` adds the table's
-unfoldable pub reply : Bool → Answer → List ℕ
-reply tables a = answerLine a ++ (if tables then tableLine (a .kernel) else [])
+-- the answer to it
+abbrev pub answerOf : Bool → Session → List ℕ → Answer
+answerOf tables s arena = answerTo (s .kernel) arena (frameIn tables s)
 
--- no reply is longer: 13 for the answer, 7,200 for the table
+-- the answer's digits and a line feed; `tables` has what is added between them, and the table's line after them
+unfoldable pub reply : Bool → Answer → List ℕ → List ℕ
+reply tables a added = answerDigits a ++ (if tables then added ++ (10 ∷ tableLine (a .kernel)) else 10 ∷ [])
+
+-- no reply is longer: 12 for the digits, 1,681 for what is added, 1 for the line feed, 7,200 for the table
 abbrev pub replyRoom : Bool → ℕ
-replyRoom tables = if tables then 7213 else 13
+replyRoom tables = if tables then 8894 else 13
 
 -- ---- a byte: a line feed ends the line, any other lengthens it
 
-unfoldable pub fed : Session → List ℕ → ℕ → Session
-fed s arena b =
-    if eqb b 10 then record { kernel = answerOf s arena .kernel; line = emptyLine }
+unfoldable pub fed : Bool → Session → List ℕ → ℕ → Session
+fed tables s arena b =
+    if eqb b 10 then record { kernel = answerOf tables s arena .kernel; line = emptyLine }
     else record { kernel = s .kernel; line = lengthened (s .line) b }
 
-unfoldable pub fedArena : Session → List ℕ → ℕ → List ℕ
-fedArena s arena b = if eqb b 10 then wordsAfter (s .kernel) arena (frameOf (s .line)) else arena
+unfoldable pub fedArena : Bool → Session → List ℕ → ℕ → List ℕ
+fedArena tables s arena b = if eqb b 10 then wordsAfter (s .kernel) arena (frameIn tables s) else arena
 
 unfoldable pub said : Bool → Session → List ℕ → ℕ → List ℕ
-said tables s arena b = if eqb b 10 then reply tables (answerOf s arena) else []
+said tables s arena b = if eqb b 10 then reply tables (answerOf tables s arena) (addedTo (s .kernel) arena (frameIn tables s)) else []
 
 -- ---- bytes
 
 -- the session after them
-unfoldable pub after : Session → List ℕ → List ℕ → Session
-after s arena [] = s
-after s arena (b ∷ bs) = after (fed s arena b) (fedArena s arena b) bs
+unfoldable pub after : Bool → Session → List ℕ → List ℕ → Session
+after tables s arena [] = s
+after tables s arena (b ∷ bs) = after tables (fed tables s arena b) (fedArena tables s arena b) bs
 
 -- the arena's words after them
-unfoldable pub afterArena : Session → List ℕ → List ℕ → List ℕ
-afterArena s arena [] = arena
-afterArena s arena (b ∷ bs) = afterArena (fed s arena b) (fedArena s arena b) bs
+unfoldable pub afterArena : Bool → Session → List ℕ → List ℕ → List ℕ
+afterArena tables s arena [] = arena
+afterArena tables s arena (b ∷ bs) = afterArena tables (fed tables s arena b) (fedArena tables s arena b) bs
 
 -- what is written meanwhile
 unfoldable pub replies : Bool → Session → List ℕ → List ℕ → List ℕ
 replies tables s arena [] = []
-replies tables s arena (b ∷ bs) = said tables s arena b ++ replies tables (fed s arena b) (fedArena s arena b) bs
+replies tables s arena (b ∷ bs) = said tables s arena b ++ replies tables (fed tables s arena b) (fedArena tables s arena b) bs
 
 -- playing those bytes does all that: the session, the arena's words, and the replies at the start of what is lent for them
 pub record Plays (tables : Bool) (s : Session) (arena bytes arena′ out out′ : List ℕ) (p : Played) : Type 0 where
-  pub session : p .session ≡ after s arena bytes
-  pub words : arena′ ≡ afterArena s arena bytes
+  pub session : p .session ≡ after tables s arena bytes
+  pub words : arena′ ≡ afterArena tables s arena bytes
   pub written : Writes out 0 (replies tables s arena bytes) out′ (p .len)
 
 -- ---- the whole input
@@ -81,5 +86,5 @@ unfoldable pub printed : Bool → List ℕ → List ℕ
 printed tables input =
     let s = opened 4096 in
     let arena = initWords 1000 (replicate 4096 0) in
-    let s′ = after s arena input in
-    replies tables s arena input ++ replies tables s′ (afterArena s arena input) (rest s′)
+    let s′ = after tables s arena input in
+    replies tables s arena input ++ replies tables s′ (afterArena tables s arena input) (rest s′)

@@ -20,6 +20,9 @@ impl Session {
 
     // An answer's line, with its line feed.
     pub const ANSWER_BYTES: usize = 13;
+
+    // At most so many bytes stand between an answer's digits and its line feed.
+    pub const ADDED_BYTES: usize = 1681;
 }
 
 // The session after some input, and how many bytes were written.

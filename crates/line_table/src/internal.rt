@@ -20,7 +20,7 @@ ghost use Rattle.line_table.specs.TableLine.{field, signed, slotText, sl
 
 // ---- pieces
 
-fn put_field(out: &mut [u8], at: usize, n: u64) -> usize
+pub fn put_field(out: &mut [u8], at: usize, n: u64) -> usize
     requires { ⌜ at + 21 ≤ length (now out) ⌝ }
     ensures { λ r. ⌜ Writes (now (out .entry)) at (field n) (now (out .exit)) r ⌝ }
     ensures short { λ r. ⌜ r ≤ at + 21 ⌝ }
@@ -29,7 +29,7 @@ fn put_field(out: &mut [u8], at: usize, n: u64) -> usize
     put_decimal(out, after_comma, n)
 }
 
-fn put_fields(out: &mut [u8], at: usize, a: u64, b: u64, c: u64) -> usize
+pub fn put_fields(out: &mut [u8], at: usize, a: u64, b: u64, c: u64) -> usize
     requires { ⌜ at + 63 ≤ length (now out) ⌝ }
     ensures { λ r. ⌜ Writes (now (out .entry)) at (field a ++ field b ++ field c) (now (out .exit)) r ⌝ }
     ensures short { λ r. ⌜ r ≤ at + 63 ⌝ }

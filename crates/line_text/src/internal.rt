@@ -19,6 +19,17 @@ pub fn put(out: &mut [u8], at: usize, b: u8) -> usize
     at + 1
 }
 
+pub fn put_text(out: &mut [u8], at: usize, text: &[u8]) -> usize
+    requires { ⌜ at + length (now text) ≤ length (now out) ⌝ }
+    ensures { λ r. ⌜ Writes (now (out .entry)) at (now (text .entry)) (now (out .exit)) r ⌝ }
+{
+    let mut n = at;
+    for i in 0..text.len() {
+        n = put(out, n, text[i]);
+    }
+    n
+}
+
 fn hex_digit(n: u64) -> u8
     ensures { λ r. ⌜ r ≡ hexDigit n ⌝ }
 {

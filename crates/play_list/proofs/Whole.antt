@@ -12,25 +12,26 @@ use Rattle.kernel.specs.declared.scheduler.Answer.{Answer}
 use Rattle.kernel.specs.Calls.{initWords}
 use Rattle.line_text.specs.Text.{Writes}
 use Rattle.line_text.proofs.Writing.{written-then, written-length, same-text}
+use Rattle.line_dispatch.specs.Dispatch.{addedTo}
 use Rattle.line_session.specs.declared.Session.{Session}
 use Rattle.line_session.specs.declared.Played.{Played}
-use Rattle.line_session.specs.Session.{opened, answerOf, fed, fedArena, said, after, afterArena, replies, reply, replyRoom, rest, Plays, printed}
+use Rattle.line_session.specs.Session.{opened, frameIn, answerOf, fed, fedArena, said, after, afterArena, replies, reply, replyRoom, rest, Plays, printed}
 use Rattle.line_session.proofs.Playing.{both, answer-alone, no-table}
 use Rattle.play_list.specs.PlayList.{listRoom}
 
 -- ---- how long the replies are
 
-reply-length : (a : Answer) → length (reply false a) ≡ 13
-reply-length a = ap length (sym (answer-alone false a refl))
+reply-length : (a : Answer) (added : List ℕ) → length (reply false a added) ≡ 13
+reply-length a added = ap length (sym (answer-alone false a added refl))
 
 said-length : (s : Session) (arena : List ℕ) (b : ℕ) → length (said false s arena b) ≤ 13
 unfolding said
-said-length s arena b = either (λ (t : List ℕ). length t ≤ 13) (eqb b 10) (λ e. omega (arith, reply-length (answerOf s arena))) (λ e. omega arith)
+said-length s arena b = either (λ (t : List ℕ). length t ≤ 13) (eqb b 10) (λ e. omega (arith, reply-length (answerOf false s arena) (addedTo (s .kernel) arena (frameIn false s)))) (λ e. omega arith)
 
 replies-length : (s : Session) (arena bs : List ℕ) → length (replies false s arena bs) ≤ 13 * length bs
 unfolding replies
 replies-length s arena [] = omega arith
-replies-length s arena (b ∷ bs) = omega (arith, length-append (said false s arena b) (replies false (fed s arena b) (fedArena s arena b) bs), said-length s arena b, replies-length (fed s arena b) (fedArena s arena b) bs)
+replies-length s arena (b ∷ bs) = omega (arith, length-append (said false s arena b) (replies false (fed false s arena b) (fedArena false s arena b) bs), said-length s arena b, replies-length (fed false s arena b) (fedArena false s arena b) bs)
 
 rest-length : (s : Session) → length (rest s) ≤ 1
 rest-length s = either (λ (t : List ℕ). length t ≤ 1) (eqb (s .line .len) 0) (λ e. omega arith) (λ e. omega arith)
@@ -73,7 +74,7 @@ abbrev ended : Session → List ℕ → List ℕ
 ended s arena = replies false s arena (rest s)
 
 abbrev told : List ℕ → Session → List ℕ → List ℕ
-told list s arena = replies false s arena list ++ ended (after s arena list) (afterArena s arena list)
+told list s arena = replies false s arena list ++ ended (after false s arena list) (afterArena false s arena list)
 
 from-fresh : (list : List ℕ) → told list (opened 4096) (initWords 1000 (replicate 4096 0)) ≡ printed false list
 unfolding printed

@@ -1,13 +1,15 @@
 //! Holds a program that prints as `tables` does against the published kernel.
 
+use std::collections::BTreeMap;
 use std::io::{Read, Write};
 use std::process::{Command, ExitCode, Stdio};
 use std::thread;
 
 use kernel::interface::*;
 
-use crate::notation::{parse, put_answer, put_tables};
-use crate::replay::{HZ, lines};
+use crate::coverage::operations;
+use crate::notation::{parse, put_tables};
+use crate::replay::{HZ, lines, put_said};
 
 /// Starts the program, gives it the list, and takes what it prints, and
 /// whether it ended well.
@@ -55,9 +57,9 @@ fn difference(list: &[Call], got: &[u8]) -> Option<(usize, String, String)> {
     renew();
     init(HZ);
     for (at, &asked) in list.iter().enumerate() {
-        let (number, value) = call(asked);
+        let said = call(asked);
         let (mut want, mut want_table) = (Vec::new(), Vec::new());
-        put_answer(&mut want, number, value, current());
+        put_said(&mut want, asked, said);
         put_tables(&mut want_table, &tables());
         want.pop();
         want_table.pop();
@@ -90,7 +92,7 @@ pub fn run(program: &[&str]) -> ExitCode {
     });
     lists.retain(|list| !list.is_empty());
 
-    let mut calls = 0;
+    let mut calls = BTreeMap::<u8, u64>::new();
     for list in &lists {
         // The domain first, on a kernel of its own.
         renew();
@@ -130,9 +132,14 @@ pub fn run(program: &[&str]) -> ExitCode {
             println!("reference: {want}\nprogram:   {got}");
             return ExitCode::from(1);
         }
-        calls += asked.len();
+        for one in asked {
+            *calls.entry(one.op).or_default() += 1;
+        }
     }
-    println!("{} lists, {calls} calls: equal", lists.len());
+    println!("{} lists, {} lines: equal", lists.len(), calls.values().sum::<u64>());
+    for (op, name) in operations() {
+        println!("{op:02x} {name}: {}", calls.get(&op).unwrap_or(&0));
+    }
 
     ExitCode::SUCCESS
 }

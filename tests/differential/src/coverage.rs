@@ -8,29 +8,96 @@ use kernel::interface::*;
 use crate::notation::parse;
 use crate::replay::{HZ, lines};
 
-const NAMES: [&str; 20] = [
+const WORDS: usize = ARENA_BYTES as usize / 4;
+
+const FIRST: [&str; 20] = [
     "add", "start", "tick", "switch", "exit", "wait", "reap", "sleep", "wake", "lock", "unlock",
     "try lock", "acquire", "try acquire", "release", "event wait", "signal", "status", "block",
     "reap_one",
 ];
+const OF_TABLES: [&str; 5] = ["list", "current id", "result", "word", "fresh"];
 
-const MORE: [&str; 4] = ["current id", "result", "list", "word"];
+/// Every operation, with its name.
+pub fn operations() -> impl Iterator<Item = (u8, &'static str)> {
+    (ADD..).zip(FIRST).chain((LIST..).zip(OF_TABLES))
+}
 
-#[derive(Default)]
+/// What became of a word.
+#[derive(Clone, Copy, PartialEq)]
+enum Word {
+    Kept,
+    Altered,
+    /// Altered, then painted by a line 1e.
+    Repainted,
+    /// Altered, then painted by add or fresh.
+    PaintedAnew,
+}
+use Word::{Altered, Kept, PaintedAnew, Repainted};
+
 pub struct Coverage {
     pub lists: u64,
-    pub calls: u64,
+    pub lines: u64,
     numbers: BTreeMap<(u8, u8), u64>,
     cases: BTreeMap<&'static str, u64>,
+    /// How often as many tasks were listed.
+    listed: [u64; SLOTS + 1],
+    // Of the list so far.
+    hz: u32,
+    words: Vec<Word>,
+    last: u8,
 }
 
 impl Coverage {
+    pub fn new() -> Self {
+        Self {
+            lists: 0,
+            lines: 0,
+            numbers: BTreeMap::new(),
+            cases: BTreeMap::new(),
+            listed: [0; SLOTS + 1],
+            hz: HZ,
+            words: vec![Kept; WORDS],
+            last: 0,
+        }
+    }
+
+    pub fn new_list(&mut self) {
+        self.lists += 1;
+        self.hz = HZ;
+        self.words.fill(Kept);
+        self.last = 0;
+    }
+
+    /// Add or fresh paints that stretch.
+    fn paint(&mut self, (start, size): (u32, u32)) {
+        for word in &mut self.words[start as usize / 4..(start + size) as usize / 4] {
+            *word = if *word == Altered { PaintedAnew } else { Kept };
+        }
+    }
+
     /// Notes a call, its number and value, and the tables before and after.
     pub fn note(&mut self, call: Call, answer: (u8, u32), before: &Tables, after: &Tables) {
         let (number, value) = answer;
-        self.calls += 1;
+        self.lines += 1;
         *self.numbers.entry((call.op, number)).or_default() += 1;
+        self.note_cases(call, number, value, before, after);
+        match call.op {
+            ADD if number == 0 => self.paint(call.region()),
+            LIST => self.listed[value as usize] += 1,
+            WORD if call.k == 0 => self.words[call.y as usize] = Altered,
+            WORD if self.words[call.y as usize] == Altered => {
+                self.words[call.y as usize] = Repainted;
+            }
+            FRESH => {
+                self.hz = call.y;
+                self.paint((0, after.slots[0].expect("idle").size));
+            }
+            _ => {}
+        }
+        self.last = call.op;
+    }
 
+    fn note_cases(&mut self, call: Call, number: u8, value: u32, before: &Tables, after: &Tables) {
         let mut case = |name, met: bool| {
             let count = self.cases.entry(name).or_default();
             *count += met as u64;
@@ -38,6 +105,9 @@ impl Coverage {
         let find = |id: u32| before.slots.iter().flatten().find(|slot| slot.id == id);
         let own = before.slots[before.current].expect("current");
         let at = call.k as usize % OBJECTS;
+        let region = |slot: &Slot| {
+            &self.words[slot.start as usize / 4..(slot.start + slot.size) as usize / 4]
+        };
 
         // A queue before and after, where the call is about one.
         let queues = match call.op {
@@ -61,6 +131,7 @@ impl Coverage {
                 case("add fills the last slot", before.task_count == SLOTS - 1);
                 case("add into a slot used before", before.next_id as usize != slot);
                 case("add of 16 bytes", call.region().1 == 16);
+                case("add at another hz", self.hz != HZ);
             }
             TICK => {
                 let woken = (0..SLOTS).any(|at| {
@@ -68,6 +139,7 @@ impl Coverage {
                     state(before) == Some(3) && state(after) == Some(0)
                 });
                 case("tick wakes a sleeper", woken);
+                case("tick wakes a sleeper at another hz", woken && self.hz != HZ);
                 case("tick wakes current itself", before.started && own.state == 3
                     && after.slots[after.current].expect("current").state == 0);
                 case("tick ends the slice", own.state == 1 && own.remaining_slice == 1);
@@ -85,6 +157,10 @@ impl Coverage {
                 case("switch reloads", before.started && picked.remaining_slice == 0);
                 case("turn of slot 0, none Ready",
                     ready == 0 && (own.state != 1 || !before.started));
+                case("switch, a word past the guard altered",
+                    before.started && region(&own)[4..].contains(&Altered));
+                case("switch, a guard word altered and repainted",
+                    before.started && region(&own)[..4].contains(&Repainted));
             }
             EXIT => {
                 let waiter = own.waiter.map(find);
@@ -158,6 +234,93 @@ impl Coverage {
                 case("sleep of a queued task", before.mutexes.iter().any(|mutex| {
                     mutex.queue.ids().contains(&own.id)
                 }));
+                let (other, of_ms) = (self.hz != HZ, call.y as u64 * self.hz as u64);
+                case("sleep at another hz, rounded up", other && of_ms % 1000 != 0);
+                case("sleep at another hz, no rest", other && of_ms > 0 && of_ms % 1000 == 0);
+                case("sleep at another hz, 2^32 ticks and more", other && of_ms / 1000 >> 32 > 0);
+            }
+            LIST => {
+                let slots = || before.slots.iter().flatten();
+                // Up to the first altered word, and from it on.
+                let parts = || slots().map(|slot| {
+                    let words = region(slot);
+                    let used = words.iter().position(|&word| word == Altered);
+                    words.split_at(used.unwrap_or(words.len()))
+                });
+                let last = before.slots.iter().rposition(Option::is_some);
+                case("list before the start", !before.started);
+                case("list, as many records as tasks", call.k as usize == before.task_count);
+                case("list, more records than tasks", call.k as usize > before.task_count);
+                case("list, an empty slot between", last != Some(before.task_count - 1));
+                case("list, a later slot with an earlier id",
+                    slots().zip(slots().skip(1)).any(|(one, next)| next.id < one.id));
+                case("list, bytes used", parts().any(|(_, used)| !used.is_empty()));
+                case("list, all bytes used", parts().any(|(free, _)| free.is_empty()));
+                case("list, a guard word altered",
+                    slots().any(|slot| region(slot)[..4].contains(&Altered)));
+                case("list, an altered word repainted",
+                    parts().any(|(free, _)| free.contains(&Repainted)));
+                case("list, an altered word painted anew by add",
+                    parts().skip(1).any(|(free, _)| free.contains(&PaintedAnew)));
+                case("list, an altered word painted anew by fresh",
+                    parts().take(1).any(|(free, _)| free.contains(&PaintedAnew)));
+            }
+            CURRENT_ID => {
+                case("current id, not the slot's number", value as usize != before.current);
+                case("current id of idle", before.current == 0);
+                case("current id of a task not Running", own.state != 1);
+            }
+            RESULT => {
+                let target = find(call.y);
+                let state = target.map(|slot| slot.state);
+                let sign = (call.k as i8).signum();
+                case("result below 0", target.is_some() && sign < 0);
+                case("result 0", target.is_some() && sign == 0);
+                case("result above 0", target.is_some() && sign > 0);
+                case("result in another's place", target.is_some_and(|slot| {
+                    slot.result != 0 && slot.result != call.k as i8 as i32
+                }));
+                case("result of current", before.started && call.y == own.id);
+                case("result of idle", call.y == 0);
+                case("result, not the slot's number", target.is_some()
+                    && before.slots.get(call.y as usize).copied().flatten().is_none_or(|slot| {
+                        slot.id != call.y
+                    }));
+                case("result, Ready", state == Some(0));
+                case("result, Running", state == Some(1));
+                case("result, Blocked", state == Some(2));
+                case("result, Sleeping", state == Some(3));
+                case("result, Suspended", state == Some(4));
+                case("result, Terminated", state == Some(5));
+                case("result before the start", !before.started);
+            }
+            WORD => {
+                let place = call.y as usize;
+                let holder = before.slots.iter().flatten().find(|slot| {
+                    (slot.start as usize / 4..(slot.start + slot.size) as usize / 4).contains(&place)
+                });
+                let guard = holder.is_some_and(|slot| place < slot.start as usize / 4 + 4);
+                let repainted = call.k == 1 && self.words[place] == Altered;
+                case("word altered, in no region", call.k == 0 && holder.is_none());
+                case("word altered, in a guard", call.k == 0 && guard);
+                case("word altered, past a guard", call.k == 0 && holder.is_some() && !guard);
+                case("word repainted, in a guard", repainted && guard);
+                case("word repainted, past a guard", repainted && holder.is_some() && !guard);
+            }
+            FRESH => {
+                case("fresh, the same hz", call.y == self.hz);
+                case("fresh, another hz", call.y != self.hz);
+                case("fresh before the start", !before.started);
+                case("fresh after the start", before.started);
+                case("fresh after fresh", self.last == FRESH);
+                case("fresh over sixteen tasks", before.task_count == SLOTS);
+                case("fresh over ticks", before.tick_count > 0);
+                case("fresh over a mutex with a queue", before.mutexes.iter().any(|mutex| {
+                    !mutex.queue.ids().is_empty()
+                }));
+                case("fresh over permits and signals",
+                    before.semaphores.iter().any(|(count, _)| *count > 0)
+                        && before.events.iter().any(|(signalled, _)| *signalled));
             }
             _ => {}
         }
@@ -173,11 +336,8 @@ impl Coverage {
     }
 
     pub fn text(&self) -> String {
-        let mut text = format!("{} lists, {} calls\n", self.lists, self.calls);
-        let more = (CURRENT_ID..).zip(MORE).filter(|(op, _)| {
-            self.numbers.range((*op, 0)..=(*op, 255)).next().is_some()
-        });
-        for (op, name) in (1..).zip(NAMES).chain(more) {
+        let mut text = format!("{} lists, {} lines\n", self.lists, self.lines);
+        for (op, name) in operations() {
             text += &format!("{op:02x} {name:12}");
             for ((_, number), count) in self.numbers.range((op, 0)..=(op, 255)) {
                 text += &format!(" {number}: {count}");
@@ -187,12 +347,15 @@ impl Coverage {
         for (name, count) in &self.cases {
             text += &format!("{count:9} {name}\n");
         }
+        for (tasks, count) in self.listed.iter().enumerate().skip(1) {
+            text += &format!("{count:9} list of {tasks}\n");
+        }
         text
     }
 }
 
 pub fn of_input() -> ExitCode {
-    let mut coverage = Coverage::default();
+    let mut coverage = Coverage::new();
     let mut code = ExitCode::SUCCESS;
     let mut left = false;
 
@@ -204,7 +367,7 @@ pub fn of_input() -> ExitCode {
         if line == b"new" {
             renew();
             init(HZ);
-            coverage.lists += 1;
+            coverage.new_list();
             return;
         }
         match parse(line).filter(|&asked| refusal(asked) == 0) {

@@ -115,6 +115,25 @@ fn set(name: &str) -> Option<(&'static [Letter], &'static [Letter])> {
                 Add(8),
             ],
         ),
+        "others" => (
+            UNLIKE,
+            &[
+                Switch,
+                Add(9),
+                Is(EXIT, 0, 0),
+                Is(REAP_ONE, 0, 0),
+                Is(SLEEP, 0, 143),
+                Is(LIST, 16, 0),
+                Is(CURRENT_ID, 0, 0),
+                Is(RESULT, 0xff, 1),
+                Is(RESULT, 1, 2),
+                // The first word of the second task, and the sixth of idle.
+                Is(WORD, 0, 2304),
+                Is(WORD, 1, 2304),
+                Is(WORD, 0, 5),
+                Is(FRESH, 0, 7),
+            ],
+        ),
         _ => return None,
     })
 }
@@ -142,7 +161,7 @@ impl Letter {
 
 pub fn run(depth: usize, name: &str) -> ExitCode {
     let Some((before, alphabet)) = set(name) else {
-        eprintln!("reference: sets are mix, mutex, queues, life and time");
+        eprintln!("reference: sets are mix, mutex, queues, life, time and others");
         return ExitCode::from(2);
     };
     let mut digits = vec![0; depth];

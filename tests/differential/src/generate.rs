@@ -48,8 +48,11 @@ struct Plan {
     calls_before_start: usize,
     /// In a hundred: a switch next, where one is due.
     obedience: usize,
-    /// In a hundred: a call beyond `turns`.
-    more: usize,
+    /// In a hundred: a call that `turns` has no line for, or a word altered.
+    others: usize,
+    /// In a thousand: another kernel.
+    fresh: usize,
+    hz: u32,
 }
 
 const READY: u8 = 0;
@@ -58,7 +61,7 @@ const BLOCKED: u8 = 2;
 const TERMINATED: u8 = 5;
 
 impl Plan {
-    fn new(random: &mut Random, more: bool) -> Self {
+    fn new(random: &mut Random, hz: u32) -> Self {
         // Weights from operation 01 on.
         let mut weights = [
             0, 3, 0, 14, 14, 2, 3, 3, 4, 4, 8, 7, 2, 6, 2, 4, 5, 4, 2, 1, 1,
@@ -119,7 +122,9 @@ impl Plan {
             tasks_before_start: tasks,
             calls_before_start: random.of(&[0, 0, 0, 2, 5, 20]),
             obedience: random.of(&[20, 60, 80, 95]),
-            more: if more { 25 } else { 0 },
+            others: random.of(&[3, 10, 25]),
+            fresh: random.of(&[0, 2, 5, 20]),
+            hz,
         }
     }
 }
@@ -187,7 +192,18 @@ fn operands(random: &mut Random, plan: &Plan, tables: &Tables, op: u8) -> Option
         }
         REAP => y = id(random, tables, |_, slot| slot.state == TERMINATED),
         WAKE => y = id(random, tables, |_, slot| slot.state == BLOCKED),
-        SLEEP => y = random.of(&[0, 0, 1, 1, 2, 3, 5, 8, 20, u32::MAX]),
+        SLEEP if plan.hz == HZ => y = random.of(&[0, 0, 1, 1, 2, 3, 5, 8, 20, u32::MAX]),
+        SLEEP => {
+            // About so many ticks, or any time.
+            let ticks = random.of(&[1, 2, 3, 5, 8]);
+            let edge = (ticks * 1000 / plan.hz as u64) as u32;
+            y = match random.below(10) {
+                0 => random.of(&[0, 1, u32::MAX]),
+                1 => random.next() as u32,
+                2..=5 => edge,
+                _ => edge + 1,
+            };
+        }
         STATUS => k = random.of(&[0, 0, 0, 0, 2, 3, 3, 4]),
         UNLOCK => {
             let owned: Vec<u8> = (0..OBJECTS as u8)
@@ -205,22 +221,35 @@ fn operands(random: &mut Random, plan: &Plan, tables: &Tables, op: u8) -> Option
                 .unwrap_or(random.below(plan.objects) as u8);
         }
         ACQUIRE..=SIGNAL => k = random.below(plan.objects) as u8,
+        LIST => {
+            let most = tables.task_count as u8;
+            k = random.of(&[most, most, most + 1, SLOTS as u8, 255]).max(most);
+        }
         RESULT => {
-            k = random.next() as u8;
-            y = id(random, tables, |_, slot| slot.state == BLOCKED);
+            let any = random.next() as u8;
+            k = random.of(&[0, 1, 127, 128, 255, any]);
+            y = id(random, tables, |_, _| true);
         }
         WORD => {
-            // Mostly in a present task's stretch, past its guard.
             let present: Vec<Slot> = tables.slots.iter().flatten().copied().collect();
             let slot = random.of(&present);
-            let inside = slot.start / 4 + random.below(slot.size as usize / 4) as u32;
-            let anywhere = random.below(ARENA_BYTES as usize / 4) as u32;
-            let place = if random.percent(80) { inside } else { anywhere };
-            let word = random.of(&[0, 1, 0xbeef, 0xffff]);
-            let guard = tables.slots.iter().flatten().any(|slot| {
-                (slot.start / 4..slot.start / 4 + 4).contains(&place)
-            });
-            y = place << 16 | if guard { 0xffff } else { word };
+            let (first, size) = (slot.start / 4, slot.size / 4);
+            let used = (first..first + size).find(|&word| !painted(word as usize));
+            (k, y) = match (random.below(10), used) {
+                (0..=3, Some(word)) => (1, word),
+                (0..=1, None) => (1, first + random.below(size as usize) as u32),
+                (2..=6, _) => (0, first + random.below(size as usize) as u32),
+                (7, _) => (0, first + random.below(size.min(8) as usize) as u32),
+                (8, _) => (0, first + random.below(4) as u32),
+                _ => (random.below(2) as u8, random.below(ARENA_BYTES as usize / 4) as u32),
+            };
+        }
+        FRESH => {
+            let any = random.next() as u32;
+            y = random.of(&[
+                HZ, HZ, HZ, HZ, 1, 2, 3, 7, 99, 100, 999, 1001, 1024, 2000, 32768, 1000000, 1 << 31,
+                u32::MAX, any, any % 5000 + 1,
+            ]);
         }
         _ => {}
     }
@@ -255,10 +284,28 @@ fn free_stretch(random: &mut Random, tables: &Tables, size: u32) -> Option<u32> 
         .or(random.of_any(&close))
 }
 
-/// The next call of a list.
-fn choose(random: &mut Random, plan: &Plan, tables: &Tables, made: usize, wanted: bool) -> Call {
+/// The next call of a list. `made`: how many this kernel has seen; `last`: the
+/// operation before, and whether it wanted a switch.
+fn choose(
+    random: &mut Random,
+    plan: &Plan,
+    tables: &Tables,
+    made: usize,
+    last: (u8, bool),
+) -> Call {
     let own = tables.slots[tables.current].expect("current");
+    let (last, wanted) = last;
 
+    let another = match last {
+        0 => 50,
+        FRESH => 100,
+        _ => plan.fresh,
+    };
+    if random.below(1000) < another {
+        if let Some(call) = operands(random, plan, tables, FRESH).filter(|&call| refusal(call) == 0) {
+            return call;
+        }
+    }
     if !tables.started {
         let added = tables.task_count > plan.tasks_before_start || made > 60;
         let waited = made >= plan.tasks_before_start + plan.calls_before_start;
@@ -279,8 +326,10 @@ fn choose(random: &mut Random, plan: &Plan, tables: &Tables, made: usize, wanted
         let handed = tables.mutexes.iter().any(|mutex| mutex.handoff_to == Some(own.id));
         let room = tables.task_count < SLOTS;
 
-        let op = if plan.more > 0 && random.percent(plan.more) {
-            random.of(&[CURRENT_ID, RESULT, LIST, WORD])
+        let op = if matches!(last, WORD | FRESH) && random.percent(25) {
+            LIST
+        } else if random.percent(plan.others) {
+            random.of(&[LIST, CURRENT_ID, RESULT, WORD])
         } else if !tables.started {
             if tables.task_count <= plan.tasks_before_start && room && random.percent(80) {
                 ADD
@@ -309,6 +358,11 @@ fn choose(random: &mut Random, plan: &Plan, tables: &Tables, made: usize, wanted
                 .expect("a weight")
         };
 
+        // A guard word that was altered is repainted first.
+        let guard = own.start / 4..own.start / 4 + 4;
+        if let Some(y) = guard.into_iter().find(|&word| op == SWITCH && !painted(word as usize)) {
+            return Call { op: WORD, k: 1, y };
+        }
         if let Some(call) = operands(random, plan, tables, op).filter(|&call| refusal(call) == 0) {
             return call;
         }
@@ -317,32 +371,38 @@ fn choose(random: &mut Random, plan: &Plan, tables: &Tables, made: usize, wanted
     Call { op: TICK, k: 0, y: 0 }
 }
 
-pub fn run(seed: u64, calls: u64, length: u64, more: bool) -> ExitCode {
+pub fn run(seed: u64, lines: u64, length: u64) -> ExitCode {
     let mut random = Random(seed);
-    let mut coverage = Coverage::default();
+    let mut coverage = Coverage::new();
     let mut out = Vec::new();
 
-    while coverage.calls < calls {
+    while coverage.lines < lines {
         renew();
         init(HZ);
         out.extend_from_slice(b"new\n");
-        coverage.lists += 1;
+        coverage.new_list();
 
-        let plan = Plan::new(&mut random, more);
-        let most = calls - coverage.calls;
+        let mut plan = Plan::new(&mut random, HZ);
+        let most = lines - coverage.lines;
         let goal = (length / 2 + random.next() % (length + 1)).clamp(1, most);
         let mut before = tables();
-        let mut wanted = false;
+        let mut last = (0, false);
+        let mut made = 0;
 
-        for made in 0..goal as usize {
-            let asked = choose(&mut random, &plan, &before, made, wanted);
+        for _ in 0..goal {
+            let asked = choose(&mut random, &plan, &before, made, last);
             let answer = call(asked);
             let after = tables();
 
             put_call(&mut out, asked);
             coverage.note(asked, answer, &before, &after);
-            wanted = asked.op == TICK && answer == (0, 1);
+            last = (asked.op, asked.op == TICK && answer == (0, 1));
             before = after;
+            made += 1;
+            if asked.op == FRESH {
+                plan = Plan::new(&mut random, asked.y);
+                made = 0;
+            }
         }
         if out.len() >= 1 << 16 {
             write(&mut out);

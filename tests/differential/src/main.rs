@@ -1,4 +1,4 @@
-//! The reference: the published kernel behind the notation of `turns`.
+//! The reference: the published kernel behind the notation of `tables`.
 
 mod against;
 mod coverage;
@@ -15,8 +15,8 @@ usage: reference replay [reset]          lists in; answers and tables out
        reference answers                 lists in; answers alone out
        reference raw                     as replay, but calls outside the domain are made too
        reference against PROGRAM [ARG..] lists in; holds a program like `tables` against the kernel
-       reference generate SEED CALLS [LENGTH [more]]
-       reference exhaustive DEPTH [SET]
+       reference generate SEED LINES LENGTH
+       reference exhaustive DEPTH SET
        reference coverage                lists in; counts out
        reference ticks                   lines `hz ms` in; ticks out
        reference pick                    lines of states, priorities, current in; slots out";
@@ -35,21 +35,11 @@ fn main() -> ExitCode {
         ["coverage"] => return coverage::of_input(),
         ["ticks"] => return side::ticks(),
         ["pick"] => return side::pick(),
-        ["generate", seed, calls] => {
-            if let (Some(seed), Some(calls)) = (number(seed), number(calls)) {
-                return generate::run(seed, calls, 200, false);
-            }
-        }
-        ["generate", seed, calls, length, ref more @ ..] if matches!(more, [] | ["more"]) => {
-            if let (Some(seed), Some(calls), Some(length @ 1..)) =
-                (number(seed), number(calls), number(length))
+        ["generate", seed, lines, length] => {
+            if let (Some(seed), Some(lines), Some(length @ 1..)) =
+                (number(seed), number(lines), number(length))
             {
-                return generate::run(seed, calls, length, !more.is_empty());
-            }
-        }
-        ["exhaustive", depth] => {
-            if let Some(depth @ 1..) = number(depth) {
-                return exhaustive::run(depth as usize, "mix");
+                return generate::run(seed, lines, length);
             }
         }
         ["exhaustive", depth, set] => {

@@ -90,13 +90,11 @@ fn put_queue(out: &mut Vec<u8>, queue: &Queue) {
     out.extend_from_slice(b"];");
 }
 
-/// The records of a list call.
+/// The records of a list call, put behind its answer.
 pub fn put_records(out: &mut Vec<u8>, records: &[[u64; 5]]) {
-    out.extend_from_slice(b"list ");
+    out.pop();
     for (at, record) in records.iter().enumerate() {
-        if at > 0 {
-            out.push(b';');
-        }
+        out.push(if at > 0 { b';' } else { b' ' });
         put_list(out, record);
     }
     out.push(b'\n');

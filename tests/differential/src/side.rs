@@ -1,4 +1,4 @@
-//! Two functions of document 01 that no list of `turns` shows in full.
+//! Two functions that take no kernel, for side.py.
 
 use std::process::ExitCode;
 

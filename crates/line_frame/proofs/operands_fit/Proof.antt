@@ -7,4 +7,4 @@ use Rattle.line_frame.proofs.operands_fit.Tie as tie
 
 pub operands-fit-spec : {M : Type 1} → statement M
 unfolding operandsFit
-operands-fit-spec = tie.close (tie.spec (λ c κs. search needs) (λ c κs. search needs) (λ c. rw (c .before .uses-k .ensures, c .uses-y .ensures) refl))
+operands-fit-spec = tie.close (tie.spec (λ c κs. search needs) (λ c κs. search needs) (λ c κs. search needs) (λ c. rw (c .before .before .uses-k .ensures, c .before .uses-y .ensures, c .word-fits .ensures) refl))

@@ -1,49 +1,18 @@
--- `operation_of` meets its contract: each number that has an operation by computation, the others as past the list's end.
-use Prim.Native.Nat.{ℕ, zero, suc, _<_}
-use native.Mathlib.Omega.{arith}
-use mathlib.Core.Path.{_≡_, refl, sym}
-use lib.ListN.{List·getD-eq-default}
-use Rattle.line_frame.specs.Frame.{operationOf, operations}
-use Rattle.line_frame.specs.declared.Operation.the-variants.{Unknown}
+-- `operation_of` meets its contract.
+use Rattle.line_frame.specs.Frame.{operationOf}
+use Rattle.base.proofs.Choices.{taken, left, tests}
+use mathlib.Core.Path.{refl}
 use borrow.Author.Needs.{needs}
 use Rattle.line_frame.proofs.operation_of.Statement.{statement}
 use Rattle.line_frame.proofs.operation_of.Tie as tie
 
--- n is none of the keys 1 to i
-abbrev Missed : ℕ → ℕ → Type 0
-Missed n zero = Unit {0}
-Missed n (suc i) = Missed n i × (n ≡ suc i → ⊥)
+returns : tie.Need-returns
+unfolding operationOf
+returns c = taken _ _ _ _ (search tests) (c .numbered .ensures)
 
-above : (n i : ℕ) → Missed n i → 0 < n → i < n
-above n zero h p = p
-above n (suc i) h p = omega (arith, above n i (h .0) p, h .1)
-
-others : (n : ℕ) → (0 < n → 20 < n) → Unknown ≡ operationOf n
-others zero h = refl
-others (suc n) h = sym (List·getD-eq-default operations Unknown (h (omega arith)))
+returns-2 : tie.Need-returns-2
+unfolding operationOf
+returns-2 c = left _ _ _ _ (search tests) refl
 
 pub operation-of-spec : {M : Type 1} → statement M
-operation-of-spec =
-    tie.close
-    (tie.spec
-    (λ c. search needs)
-    (λ c. search needs)
-    (λ c. search needs)
-    (λ c. search needs)
-    (λ c. search needs)
-    (λ c. search needs)
-    (λ c. search needs)
-    (λ c. search needs)
-    (λ c. search needs)
-    (λ c. search needs)
-    (λ c. search needs)
-    (λ c. search needs)
-    (λ c. search needs)
-    (λ c. search needs)
-    (λ c. search needs)
-    (λ c. search needs)
-    (λ c. search needs)
-    (λ c. search needs)
-    (λ c. search needs)
-    (λ c. search needs)
-    (λ c. others (c .before .args .n) (above (c .before .args .n) 20 (c .match .rest))))
+operation-of-spec = tie.close (tie.spec (λ c κs. search needs) returns returns-2)

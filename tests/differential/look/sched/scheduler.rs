@@ -31,6 +31,22 @@ impl crate::interface::SchedulerLook for crate::interface::Door {
         super::SCHEDULER_INITIALIZED.store(false, core::sync::atomic::Ordering::Relaxed);
     }
 
+    fn empty(slot: usize) {
+        unsafe {
+            super::CURR_SCHEDULER.inner.lock_unchecked(|inner| {
+                inner.task_count -= inner.tasks[slot].take().is_some() as usize;
+            });
+        }
+    }
+
+    fn set_current(slot: usize) {
+        unsafe {
+            super::CURR_SCHEDULER
+                .inner
+                .lock_unchecked(|inner| inner.current = TaskId::from_raw(slot));
+        }
+    }
+
     fn pick(tasks: [Option<TaskControl>; MAX_TASKS], current: usize) -> usize {
         let mut inner = SchedulerInner::new();
         inner.tasks = tasks;

@@ -48,6 +48,8 @@ pub(crate) trait SchedulerLook {
     fn see() -> Seen;
     fn reap_one(cs: &CriticalSection) -> Option<StackRegion>;
     fn renew();
+    fn empty(slot: usize);
+    fn set_current(slot: usize);
     fn pick(tasks: [Option<TaskControl>; SLOTS], current: usize) -> usize;
 }
 
@@ -55,8 +57,14 @@ fn arena() -> usize {
     stack_pool_block().base()
 }
 
-fn word(index: usize) -> u32 {
-    unsafe { ((arena() + 4 * index) as *const u32).read() }
+/// The arena's words.
+pub fn words() -> &'static mut [u32] {
+    unsafe { core::slice::from_raw_parts_mut(arena() as *mut u32, ARENA_WORDS) }
+}
+
+/// Whether that word is painted.
+pub fn painted(index: usize) -> bool {
+    words()[index] == PAINT
 }
 
 extern "C" fn no_entry(_arg: *mut ()) {}
@@ -73,13 +81,46 @@ pub fn init(tick_hz: u32) {
 /// Sets every static back to what its published constructor gives, and the
 /// arena to zero. `init` must follow.
 pub fn renew() {
+    renew_statics();
+    words().fill(0);
+}
+
+fn renew_statics() {
     Door::renew();
     TaskControl::renew_ids();
     STACK_POOL.lock(|pool| *pool = StackPool::empty());
     MUTEXES.iter().for_each(Mutex::renew);
     SEMAPHORES.iter().for_each(Semaphore::renew);
     EVENTS.iter().for_each(Event::renew);
-    unsafe { core::ptr::write_bytes(arena() as *mut u32, 0, ARENA_WORDS) };
+}
+
+/// Another kernel on the arena's words as they are.
+fn fresh(tick_hz: u32) {
+    renew_statics();
+    init(tick_hz);
+}
+
+/// For `raw`. A kernel that is not whole: the task is taken out of its slot.
+pub fn empty(slot: usize) {
+    Door::empty(slot);
+}
+
+/// For `raw`. Another current, which may be none of the slots.
+pub fn set_current(slot: usize) {
+    Door::set_current(slot);
+}
+
+/// For `raw`. Fresh where the stack pool has no more than that many bytes
+/// left, at most 8,192: the others are taken from it before.
+pub fn fresh_in(bytes: usize, tick_hz: u32) {
+    renew_statics();
+    STACK_POOL.lock(|pool| {
+        let size = stack_pool_block().size();
+        if bytes < size {
+            pool.alloc(size - bytes).expect("bytes of the pool");
+        }
+    });
+    init(tick_hz);
 }
 
 /// One line of the notation.
@@ -111,12 +152,12 @@ pub const STATUS: u8 = 0x12;
 pub const BLOCK: u8 = 0x13;
 pub const REAP_ONE: u8 = 0x14;
 
-// Beyond `turns`: calls of document 01 that it has no line for, and a word
-// written into the arena between two calls.
-pub const CURRENT_ID: u8 = 0xf0;
-pub const RESULT: u8 = 0xf1;
-pub const LIST: u8 = 0xf2;
-pub const WORD: u8 = 0xf3;
+// Of `tables` alone.
+pub const LIST: u8 = 0x1b;
+pub const CURRENT_ID: u8 = 0x1c;
+pub const RESULT: u8 = 0x1d;
+pub const WORD: u8 = 0x1e;
+pub const FRESH: u8 = 0x1f;
 
 pub const NONE: u32 = 0xffff_ffff;
 
@@ -125,17 +166,11 @@ impl Call {
     pub fn region(&self) -> (u32, u32) {
         (self.y >> 16, self.y & 0xffff)
     }
-
-    /// The place and the word that a written word names.
-    fn word(&self) -> (usize, u32) {
-        let low = self.y & 0xffff;
-        ((self.y >> 16) as usize, if low == 0xffff { PAINT } else { low })
-    }
 }
 
 /// The number with which document 01 refuses the call where the Rust would
-/// panic or has no such refusal; 0xff for a line that is no call; 0 for a call
-/// in the compared domain.
+/// panic or has no such refusal; 0xff for a line that is none; 0 for a call
+/// in the compared domain, and for a word altered between two calls.
 pub fn refusal(call: Call) -> u8 {
     let Call { op, k, y } = call;
 
@@ -144,20 +179,27 @@ pub fn refusal(call: Call) -> u8 {
         SWITCH | WAIT | REAP | SLEEP | WAKE => (false, true),
         LOCK..=STATUS => (true, false),
         START | TICK | EXIT | BLOCK | REAP_ONE => (false, false),
-        RESULT => (true, true),
-        WORD => (false, true),
-        CURRENT_ID | LIST => (false, false),
+        LIST => (true, false),
+        CURRENT_ID => (false, false),
+        RESULT | WORD => (true, true),
+        FRESH => (false, true),
         _ => return 0xff,
     };
     if (!uses_k && k != 0) || (!uses_y && y != 0) {
         return 0xff;
     }
-    if op == WORD && call.word().0 >= ARENA_WORDS {
+    if op == WORD && (k > 1 || y as usize >= ARENA_WORDS) {
         return 0xff;
+    }
+    if matches!(op, WORD | FRESH) {
+        return if op == FRESH && y == 0 { 7 } else { 0 };
     }
 
     let seen = Door::see();
-    let task = seen.tasks[seen.current].as_ref().expect("current");
+    let current = seen.tasks.get(seen.current).and_then(Option::as_ref);
+    let Some(task) = current.filter(|_| seen.tasks[0].is_some()) else {
+        return 1;
+    };
 
     if (LOCK..=SIGNAL).contains(&op) && k as usize >= OBJECTS {
         return 20;
@@ -199,7 +241,7 @@ pub fn refusal(call: Call) -> u8 {
 
             if sp < task.stack.start() || sp >= task.stack.end() {
                 16
-            } else if (first..first + 4).any(|index| word(index) != PAINT) {
+            } else if !(first..first + 4).all(painted) {
                 17
             } else {
                 0
@@ -231,25 +273,27 @@ pub fn refusal(call: Call) -> u8 {
             if !signalled && full(queue) { 12 } else { 0 }
         }
         STATUS if k == 1 || k >= 5 => 7,
+        LIST if (k as usize) < seen.task_count => 21,
         _ => 0,
     }
 }
 
-/// Whether the Rust can be given the call at all: a known operation, an object
-/// that is there, a stretch inside the arena.
+/// Whether the Rust can be given a refused call at all: a known operation, an
+/// object that is there, a stretch inside the arena.
 pub fn possible(call: Call) -> bool {
     let (start, size) = call.region();
 
-    match refusal(call) {
-        20 | 0xff => false,
-        5 => start + size <= ARENA_BYTES,
-        _ => true,
-    }
+    refusal(call) != 0xff
+        && match call.op {
+            ADD => start + size <= ARENA_BYTES,
+            LOCK..=SIGNAL => (call.k as usize) < OBJECTS,
+            _ => true,
+        }
 }
 
 /// Makes the call, whether or not it is in the domain, and gives number and
-/// value as `turns` prints them. Outside the domain the Rust may panic; a call
-/// that is not `possible` must not be made.
+/// value as `tables` prints them. Outside the domain the Rust may panic; a
+/// refused call that is not `possible` must not be made.
 /// Release and signal give the value 0, for the Rust returns nothing there.
 pub fn call(call: Call) -> (u8, u32) {
     let Call { op, k, y } = call;
@@ -307,17 +351,17 @@ pub fn call(call: Call) -> (u8, u32) {
         STATUS => done(scheduler().set_current_task_status(cs, state(k))),
         BLOCK => done(scheduler().block_current_task(cs)),
         REAP_ONE => (0, Door::reap_one(cs).map_or(NONE, start)),
+        LIST => (0, records().len() as u32),
         CURRENT_ID => (0, scheduler().current_task_id(cs).raw() as u32),
         RESULT => match scheduler().set_syscall_result(cs, id, k as i8 as i32) {
             Ok(()) => (0, 0),
             Err(error) => (number(op, error), 0),
         },
-        LIST => (0, scheduler().tasks().len() as u32),
         WORD => {
-            let (place, word) = call.word();
-            unsafe { ((arena() + 4 * place) as *mut u32).write(word) };
+            words()[y as usize] = if k == 1 { PAINT } else { 0 };
             (0, 0)
         }
+        FRESH => done(fresh(y)),
         _ => (0xff, 0),
     })
 }
