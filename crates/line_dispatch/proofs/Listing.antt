@@ -70,13 +70,31 @@ first-infos k arena records behind i e h =
     let written = sym (taken _ (infos ++ drop (length infos) records) records _ (eq-eqb _ 0 e) refl) in
     rw written (rw (append-assoc infos) (List·getD-append infos _ blankInfo i (omega (arith, infos-count k arena 16, accepted-is k (list arena records) e .count))))
 
-pub same-records : (k : Kernel) (arena : List ℕ) (room : ℕ) (behind : List TaskInfo) → number k (list arena (blankRecords room)) ≡ 0 → listText (k .«task_count») (listRecords k arena (blankRecords (min room 16)) ++ behind) ≡ listAdds k arena room
+infos-text : (k : Kernel) (arena : List ℕ) (records behind : List TaskInfo) → number k (list arena records) ≡ 0 → listText (k .«task_count») (listRecords k arena records ++ behind) ≡ listText (k .«task_count») (taskInfos k arena 16)
+infos-text k arena records behind e = same-first (k .«task_count») _ _ (λ i h. first-infos k arena records behind i e h)
+
+adds-infos : (k : Kernel) (arena : List ℕ) (room : ℕ) → number k (list arena (blankRecords room)) ≡ 0 → listAdds k arena room ≡ listText (k .«task_count») (taskInfos k arena 16)
 unfolding listAdds
-same-records k arena room behind e =
-    let fewer : number k (list arena (blankRecords (min room 16))) ≡ 0 = same-number k arena room ∙ e in
-    taken _ _ _ _ (eq-eqb _ 0 e)
-    (same-first (k .«task_count») _ _ (λ i h. first-infos k arena _ behind i fewer h ∙ sym (first-infos k arena _ [] i e h) ∙ ap (λ (r : List TaskInfo). getD r i blankInfo) (append-nil (listRecords k arena (blankRecords room)))))
+adds-infos k arena room e =
+    let records = listRecords k arena (blankRecords room) in
+    sym (taken _ _ _ _ (eq-eqb _ 0 e) (sym (ap (listText (k .«task_count»)) (sym (append-nil records)) ∙ infos-text k arena (blankRecords room) [] e)))
+
+pub same-records : (k : Kernel) (arena : List ℕ) (room : ℕ) (behind : List TaskInfo) → number k (list arena (blankRecords room)) ≡ 0 → listText (k .«task_count») (listRecords k arena (blankRecords (min room 16)) ++ behind) ≡ listAdds k arena room
+same-records k arena room behind e = infos-text k arena _ behind (same-number k arena room ∙ e) ∙ sym (adds-infos k arena room e)
 
 pub nothing-added : (k : Kernel) (arena : List ℕ) (room : ℕ) → (number k (list arena (blankRecords room)) ≡ 0 → ⊥) → [] ≡ listAdds k arena room
 unfolding listAdds
 nothing-added k arena room h = left _ _ _ _ (ne-eqb _ 0 h) refl
+
+same-adds : (k : Kernel) (arena : List ℕ) (room : ℕ) → listAdds k arena (min room 16) ≡ listAdds k arena room
+same-adds k arena room = by-cases (number k (list arena (blankRecords room))) refl
+  where
+    by-cases : (n : ℕ) → number k (list arena (blankRecords room)) ≡ n → listAdds k arena (min room 16) ≡ listAdds k arena room
+    by-cases zero e = adds-infos k arena (min room 16) (same-number k arena room ∙ e) ∙ sym (adds-infos k arena room e)
+    by-cases (suc n) e = sym (nothing-added k arena (min room 16) (λ z. omega (arith, e, sym (same-number k arena room) ∙ z))) ∙ nothing-added k arena room (λ z. omega (arith, e, z))
+
+-- a call on sixteen
+pub sixteen : (k : Kernel) (arena : List ℕ) (room : ℕ) → 16 ≤ room → (listAnswer k arena 16 ≡ listAnswer k arena room) × (listAdds k arena 16 ≡ listAdds k arena room)
+sixteen k arena room h =
+    let most : 16 ≡ min room 16 = omega arith in
+    (ap (listAnswer k arena) most ∙ same-answer k arena room, ap (listAdds k arena) most ∙ same-adds k arena room)

@@ -120,7 +120,14 @@ pub fn dispatch(
         Operation::Status => call_status::internal::set_current_task_status(k, known, f.k),
         Operation::Block => call_status::internal::block_current_task(k, known),
         Operation::ReapOne => call_reap::internal::reap_one(k, known),
-        Operation::List => list(k, object, arena, out, at),
+        // Called from two places, `list` stays a function of its own; taken into this one it would make each of the others slower.
+        Operation::List => {
+            if object < Kernel::MAX_TASKS {
+                list(k, object, arena, out, at)
+            } else {
+                list(k, Kernel::MAX_TASKS, arena, out, at)
+            }
+        },
         Operation::CurrentId => call_status::current_task_id(k),
         Operation::Result => call_wake::set_syscall_result(k, id, signed(f.k)),
         Operation::Word => {

@@ -60,10 +60,6 @@ usesK operation = eqb operation 0x01 || (leb 0x0a operation && leb operation 0x1
 abbrev pub usesY : ℕ → Bool
 usesY operation = eqb operation 0x01 || eqb operation 0x04 || (leb 0x06 operation && leb operation 0x09) || (leb 0x1d operation && leb operation 0x1f)
 
--- a word of 4,096, which becomes 0 or the paint
-abbrev pub wordFits : ℕ → ℕ → Bool
-wordFits k y = leb k 1 && leb y 4095
-
 abbrev pub kOf : Line → ℕ
 kOf l = byteAt l 1
 
@@ -71,9 +67,19 @@ kOf l = byteAt l 1
 abbrev pub yOf : Line → ℕ
 yOf l = ((byteAt l 2 * 256 + byteAt l 3) * 256 + byteAt l 4) * 256 + byteAt l 5
 
--- an operand that the operation does not use is 0, and those of a word are in range
+-- an operand that the operation does not use is 0
+unfoldable pub kFits : ℕ → ℕ → Bool
+kFits operation k = eqb k 0 || usesK operation
+
+unfoldable pub yFits : ℕ → ℕ → Bool
+yFits operation y = eqb y 0 || usesY operation
+
+-- 1e: one of 4,096 words, which becomes 0 or the paint
+unfoldable pub wordFits : ℕ → ℕ → ℕ → Bool
+wordFits operation k y = not (eqb operation 0x1e) || (leb k 1 && leb y 4095)
+
 unfoldable pub operandsFit : ℕ → ℕ → ℕ → Bool
-operandsFit operation k y = (usesK operation || eqb k 0) && (usesY operation || eqb y 0) && (not (eqb operation 0x1e) || wordFits k y)
+operandsFit operation k y = every (kFits operation k ∷ yFits operation y ∷ wordFits operation k y ∷ [])
 
 -- what stands for a line that is no frame
 abbrev pub malformed : Frame

@@ -3,7 +3,7 @@ ghost use mathlib.Core.Path.{_≡_};
 ghost use mathlib.Core.Bool.{true};
 ghost use Prim.Native.Nat.{_+_, _*_, _<_};
 ghost use lib.ListN.{getD};
-ghost use Rattle.line_frame.specs.Frame.{emptyLine, digit, byteOf, byteAt, isHex, operations, operationOf, usesK, usesY, wordFits, yOf, operandsFit, malformed, frameOf};
+ghost use Rattle.line_frame.specs.Frame.{emptyLine, digit, byteOf, byteAt, isHex, operations, operationOf, usesK, usesY, kFits, yFits, wordFits, yOf, operandsFit, malformed, frameOf};
 
 // The operations in the order of their numbers: 0x01 to 0x14, which `turns` has, and 0x1b to 0x1f, which `tables` has too.
 pub enum Operation {
@@ -148,10 +148,30 @@ fn uses_y(operation: u32) -> bool
         | ((29 <= operation) & (operation <= 31))
 }
 
-// Whether k and y name a word of the arena and what it can become.
-fn word_fits(k: u32, y: u32) -> bool
-    ensures { λ r. ⌜ r ≡ wordFits k y ⌝ }
+fn k_fits(operation: u32, k: u32) -> bool
+    ensures { λ r. ⌜ r ≡ kFits operation k ⌝ }
 {
+    if k == 0 {
+        return true;
+    }
+    uses_k(operation)
+}
+
+fn y_fits(operation: u32, y: u32) -> bool
+    ensures { λ r. ⌜ r ≡ yFits operation y ⌝ }
+{
+    if y == 0 {
+        return true;
+    }
+    uses_y(operation)
+}
+
+fn word_fits(operation: u32, k: u32, y: u32) -> bool
+    ensures { λ r. ⌜ r ≡ wordFits operation k y ⌝ }
+{
+    if operation != WORD {
+        return true;
+    }
     (k <= 1) & (y <= LAST_WORD)
 }
 
@@ -159,9 +179,13 @@ fn word_fits(k: u32, y: u32) -> bool
 fn operands_fit(operation: u32, k: u32, y: u32) -> bool
     ensures { λ r. ⌜ r ≡ operandsFit operation k y ⌝ }
 {
-    (uses_k(operation) | (k == 0))
-        & (uses_y(operation) | (y == 0))
-        & ((operation != WORD) | word_fits(k, y))
+    if !k_fits(operation, k) {
+        return false;
+    }
+    if !y_fits(operation, y) {
+        return false;
+    }
+    word_fits(operation, k, y)
 }
 
 fn word(a: u32, b: u32, c: u32, d: u32) -> u32

@@ -1,7 +1,8 @@
 -- `dispatch` meets its contract: an arm for each operation, by the contract of its call.
-use Rattle.line_text.proofs.Writing.{nothing-written}
+use Rattle.line_text.proofs.Writing.{nothing-written, same-text}
+use Rattle.line_dispatch.proofs.Listing.{sixteen}
 use native.Mathlib.Omega.{arith}
-use mathlib.Core.Path.{refl}
+use mathlib.Core.Path.{refl, _∙_}
 use mir.Facts.{toZ-ofZ}
 use mir.Syntax.{w32}
 use Rattle.line_dispatch.specs.Dispatch.{answerTo, wordsAfter, addedTo}
@@ -95,23 +96,29 @@ returns-21 c = rw (c .before .enum-told21 .given .1) ((c .reap-one .ensures, ref
 
 returns-22 : tie.Need-returns-22
 unfolding answerTo wordsAfter addedTo
-returns-22 c = rw (c .before .before .before .before .before .before .enum-told22 .given .1) ((c .before .before .list .ensures .0 .0, refl, c .before .before .list .ensures .0 .1), c .before .before .list .ensures .1)
+returns-22 c = rw (c .before .before .before .before .before .before .before .enum-told22 .given .1) ((c .before .before .list .ensures .0 .0, refl, c .before .before .list .ensures .0 .1), c .before .before .list .ensures .1)
 
 returns-23 : tie.Need-returns-23
 unfolding answerTo wordsAfter addedTo
-returns-23 c = rw (c .before .enum-told23 .given .1) ((c .current-task-id .ensures, refl, nothing-written _ _), omega arith)
+returns-23 c =
+    let enough = sixteen _ _ _ (c .before .before .before .before .before .before .if1 .left) in
+    rw (c .before .before .before .before .before .before .before .enum-told22 .given .1) ((c .before .before .list2 .ensures .0 .0 ∙ enough .0, refl, same-text (enough .1) (c .before .before .list2 .ensures .0 .1)), c .before .before .list2 .ensures .1)
 
 returns-24 : tie.Need-returns-24
 unfolding answerTo wordsAfter addedTo
-returns-24 c = rw (c .before .before .enum-told24 .given .1) ((rw (← c .before .signed .ensures) (rw (toZ-ofZ {w = w32} {z = c .before .signed .result} (record { sfits = c .before .signed .ok })) at (c .set-syscall-result .ensures)), refl, nothing-written _ _), omega arith)
+returns-24 c = rw (c .before .enum-told23 .given .1) ((c .current-task-id .ensures, refl, nothing-written _ _), omega arith)
 
 returns-25 : tie.Need-returns-25
 unfolding answerTo wordsAfter addedTo
-returns-25 c = rw (c .before .before .before .before .before .before .before .enum-told25 .given .1) ((c .accepted .ensures, rw (← c .before .before .before .before .word-of .ensures) (c .before .before .before .set-word .ensures), nothing-written _ _), omega arith)
+returns-25 c = rw (c .before .before .enum-told24 .given .1) ((rw (← c .before .signed .ensures) (rw (toZ-ofZ {w = w32} {z = c .before .signed .result} (record { sfits = c .before .signed .ok })) at (c .set-syscall-result .ensures)), refl, nothing-written _ _), omega arith)
 
 returns-26 : tie.Need-returns-26
 unfolding answerTo wordsAfter addedTo
-returns-26 c = rw (c .before .before .before .before .enum-told26 .given .1) ((c .before .before .init .ensures .0, c .before .before .init .ensures .1, nothing-written _ _), omega arith)
+returns-26 c = rw (c .before .before .before .before .before .before .before .enum-told25 .given .1) ((c .accepted .ensures, rw (← c .before .before .before .before .word-of .ensures) (c .before .before .before .set-word .ensures), nothing-written _ _), omega arith)
+
+returns-27 : tie.Need-returns-27
+unfolding answerTo wordsAfter addedTo
+returns-27 c = rw (c .before .before .before .before .enum-told26 .given .1) ((c .before .before .init .ensures .0, c .before .before .init .ensures .1, nothing-written _ _), omega arith)
 
 pub dispatch-spec : {M : Type 1} → statement M
 dispatch-spec =
@@ -163,6 +170,7 @@ dispatch-spec =
     (λ c κs. search needs)
     (λ c. search needs)
     (λ c κs. search needs)
+    (λ c κs. search needs)
     (λ c. search needs)
     (λ c κs. search needs)
     (λ c. search needs)
@@ -201,9 +209,12 @@ dispatch-spec =
     (λ c. search needs)
     (λ c. search needs)
     returns-22
+    (λ c. search needs)
+    (λ c. search needs)
     returns-23
     returns-24
-    (λ c. search needs)
     returns-25
     (λ c. search needs)
-    returns-26)
+    returns-26
+    (λ c. search needs)
+    returns-27)
