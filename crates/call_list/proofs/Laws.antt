@@ -1,5 +1,5 @@
 -- The rows grow slot by slot, and what they make of the records that are lent.
-use Prim.Native.Nat.{ℕ, suc, _+_, _≤_, _<_}
+use Prim.Native.Nat.{ℕ, zero, suc, _+_, _≤_, _<_}
 use native.Mathlib.Omega.{arith}
 use native.Mathlib.Numerals.{add-one}
 use mathlib.Core.Path.{_≡_, refl, sym, ap, _∙_}
@@ -11,7 +11,7 @@ use lib.Seq.{take-suc-set, take-suc, drop-cons, set-at, length-take-le}
 use borrow.Author.Tests.{eqb-true, eq-eqb, ne-eqb, ltb-false}
 use Rattle.base.specs.Choice.{if_then_else_}
 use Rattle.base.specs.Below.{countBelow}
-use Rattle.base.proofs.Choices.{taken, left, not-clear, every-at}
+use Rattle.base.proofs.Choices.{taken, left, not-clear}
 use Rattle.base.proofs.Loops.{count-le}
 use Rattle.kernel.specs.declared.control.TaskInfo.{TaskInfo}
 use Rattle.kernel.specs.declared.scheduler.Kernel.{Kernel}
@@ -19,6 +19,7 @@ use Rattle.kernel.specs.declared.scheduler.Value.the-variants.{Count}
 use Rattle.kernel.specs.declared.scheduler.Answer.{Answer}
 use Rattle.kernel.specs.Kernel.{slot, isOccupied, whole}
 use Rattle.kernel.specs.Calls
+use Rattle.kernel.proofs.Whole.{is-whole}
 use Rattle.kernel.proofs.Accepted.{accepted-whole, accepted-at}
 use Rattle.kernel.specs.Calls.{number, value, effect, refused, accepted, step, taskInfo, taskInfos, listRecords}
 use Rattle.call_list.specs.declared.Rows.{Rows}
@@ -42,6 +43,16 @@ unfolding taskInfos countBelow
 rows-more k arena n r r′ is h e =
     let m = one-more (slot k n .occupied) (taskInfo arena (slot k n)) (taskInfos k arena n) (countBelow (isOccupied k) n) r r′ e (is .full) (omega (arith, is .count, count-le (isOccupied k) n)) (is .count) (is .infos) in
     rw add-one (record { full = m .0; count = m .1; infos = m .2 })
+
+-- as many as there are tasks
+pub infos-count : (k : Kernel) (arena : List ℕ) (n : ℕ) → length (taskInfos k arena n) ≡ countBelow (isOccupied k) n
+unfolding taskInfos countBelow if_then_else_
+infos-count k arena zero = refl
+infos-count k arena (suc n) = one-more (slot k n .occupied) (infos-count k arena n)
+  where
+    one-more : (b : Bool) → length (taskInfos k arena n) ≡ countBelow (isOccupied k) n → length (if b then taskInfos k arena n ++ (taskInfo arena (slot k n) ∷ []) else taskInfos k arena n) ≡ (if b then suc (countBelow (isOccupied k) n) else countBelow (isOccupied k) n)
+    one-more true e = length-append (taskInfos k arena n) (taskInfo arena (slot k n) ∷ []) ∙ omega (arith, e)
+    one-more false e = e
 
 -- ---- the records with the first i written
 abbrev pub filled : List TaskInfo → ℕ → List TaskInfo → List TaskInfo
@@ -77,23 +88,19 @@ accepted-first k arena room n e z =
     let m = sym (e records l) ∙ z in
     (accepted-whole k c m, eqb-true _ _ (not-clear _ (accepted-at k c 0 refl m)), omega (arith, l, ltb-false (length records) (k .«task_count») (accepted-at k c 1 refl m)))
 
-counted : (k : Kernel) → whole k ≡ true → k .«task_count» ≡ countBelow (isOccupied k) 16
-unfolding whole
-counted k e = eqb-true _ _ (every-at _ 7 e)
-
 pub plan-accepted : (k : Kernel) (arena : List ℕ) (room n : ℕ) (p : Plan) → NumberFor k arena room n → n ≡ 0 → p .number ≡ n → IsRows k arena 16 (p .rows) → (records : List TaskInfo) → length records ≡ room → IsPlan k arena records p
 unfolding listRecords
 plan-accepted k arena room n p e z a is records l =
     let m = e records l in
     let f = accepted-first k arena room n e z in
     let few : p .rows .len ≤ 16 = omega (arith, is .count, count-le (isOccupied k) 16) in
-    let many : length (taskInfos k arena 16) ≡ p .rows .len = ap length (sym (is .infos)) ∙ length-take-le (p .rows .len) (p .rows .rows) (omega (arith, is .full)) in
+    let many : length (taskInfos k arena 16) ≡ p .rows .len = infos-count k arena 16 ∙ sym (is .count) in
     record {
       numbered = a ∙ m;
       written = taken _ _ _ _ (rw (← m) (eq-eqb n 0 z)) (rw (many, is .infos));
       full = is .full;
       few = few;
-      fit = omega (arith, f .2, is .count, counted k (f .0));
+      fit = omega (arith, f .2, is .count, is-whole k (f .0) .count);
     }
 
 pub answer-is : (k : Kernel) (arena : List ℕ) (records : List TaskInfo) (n : ℕ) (r : Answer) → n ≡ number k (Calls.list arena records) → r ≡ (if eqb n 0 then accepted (Count (k .«task_count»)) k else refused n k) → r ≡ step k (Calls.list arena records)

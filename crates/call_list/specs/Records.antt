@@ -12,12 +12,15 @@ use Rattle.kernel.specs.Calls.{list, number, taskInfos, listRecords}
 use Rattle.call_list.specs.declared.Rows.{Rows}
 use Rattle.call_list.specs.declared.Plan.{Plan}
 
+-- all zero
 abbrev pub blankInfo : TaskInfo
 blankInfo = record { id = record { 0 = 0 }; state = Ready; priority = record { 0 = 0 }; «stack_used» = 0; «stack_total» = 0 }
 
+-- sixteen places, nothing in them
 abbrev pub noRows : Rows
 noRows = record { rows = replicate 16 blankInfo; len = 0 }
 
+-- one more behind them
 abbrev pub withRow : TaskInfo → Rows → Rows
 withRow info r = record { rows = set (r .rows) (r .len) info; len = r .len + 1 }
 

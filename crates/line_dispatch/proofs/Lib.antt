@@ -1,3 +1,4 @@
 pub mod Reached
 pub mod Listing
 pub mod Fresh
+pub mod Plain

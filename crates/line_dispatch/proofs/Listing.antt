@@ -5,21 +5,20 @@ use mathlib.Core.Path.{_≡_, refl, sym, ap, _∙_}
 use mathlib.Core.Bool.{Bool, true, false, not}
 use mathlib.Core.List.{List, [], _∷_, _++_, append-assoc, append-nil}
 use lib.Dec.{eqb, ltb}
-use lib.ListN.{length, drop, getD, length-replicate, length-append, List·getD-append}
+use lib.ListN.{length, drop, getD, length-replicate, List·getD-append}
 use borrow.Author.Tests.{ltb-true, lt-ltb, eq-eqb, ne-eqb}
 use Rattle.base.specs.Choice.{if_then_else_}
-use Rattle.base.specs.Below.{countBelow}
 use Rattle.base.proofs.Choices.{taken, left, same-test}
-use Rattle.base.proofs.Loops.{count-le}
 use Rattle.kernel.specs.declared.control.TaskInfo.{TaskInfo}
 use Rattle.kernel.specs.declared.scheduler.Kernel.{Kernel}
 use Rattle.kernel.specs.declared.scheduler.Value.the-variants.{Count}
 use Rattle.kernel.specs.declared.scheduler.Answer.{Answer}
-use Rattle.kernel.specs.Kernel.{slot, isOccupied, whole}
-use Rattle.kernel.specs.Calls.{list, _when_, otherLength, firstOf, number, value, effect, accepted, refused, step, taskInfo, taskInfos, listRecords}
+use Rattle.kernel.specs.Kernel.{whole}
+use Rattle.kernel.specs.Calls.{list, _when_, otherLength, firstOf, number, value, effect, accepted, refused, step, taskInfos, listRecords}
 use Rattle.kernel.proofs.Whole.{is-whole}
 use Rattle.kernel.proofs.Accepted.{accepted-is}
 use Rattle.call_list.specs.Records.{blankInfo}
+use Rattle.call_list.proofs.Laws.{infos-count}
 use Rattle.line_records.specs.RecordsText.{listText}
 use Rattle.line_records.proofs.First.{same-first}
 use Rattle.line_dispatch.proofs.Fresh.{step-number}
@@ -52,15 +51,6 @@ pub answered-number : (k : Kernel) (arena : List ℕ) (room : ℕ) (a : Answer) 
 answered-number k arena room a e = ap (λ (x : Answer). x .number) e ∙ step-number k _ ∙ same-number k arena room
 
 -- ---- the records
-
-infos-count : (k : Kernel) (arena : List ℕ) (n : ℕ) → length (taskInfos k arena n) ≡ countBelow (isOccupied k) n
-unfolding taskInfos countBelow if_then_else_
-infos-count k arena zero = refl
-infos-count k arena (suc n) = one-more (slot k n .occupied) (infos-count k arena n)
-  where
-    one-more : (b : Bool) → length (taskInfos k arena n) ≡ countBelow (isOccupied k) n → length (if b then taskInfos k arena n ++ (taskInfo arena (slot k n) ∷ []) else taskInfos k arena n) ≡ (if b then suc (countBelow (isOccupied k) n) else countBelow (isOccupied k) n)
-    one-more true e = length-append (taskInfos k arena n) (taskInfo arena (slot k n) ∷ []) ∙ omega (arith, e)
-    one-more false e = e
 
 -- the first are those that were written, whatever stands behind
 first-infos : (k : Kernel) (arena : List ℕ) (records behind : List TaskInfo) (i : ℕ) → number k (list arena records) ≡ 0 → i < k .«task_count» → getD (listRecords k arena records ++ behind) i blankInfo ≡ getD (taskInfos k arena 16) i blankInfo

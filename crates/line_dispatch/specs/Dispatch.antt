@@ -1,4 +1,4 @@
--- What a frame asks for, and what is answered (01, "Program `turns`"; README, "The notation").
+-- What a frame asks for, and what is answered (01, "Program `turns`"; README, "The operations").
 use Prim.Native.Nat.{ℕ, _-_, _/_, _%_}
 use mathlib.Core.List.{List, []}
 use lib.Dec.{eqb, ltb}
@@ -81,14 +81,17 @@ requestOf hz arena Result k y = call (result (idOf y) (signedByte k))
 requestOf hz arena Word k y = word y (wordOf k)
 requestOf hz arena Init k y = fresh y
 
+-- by a frame
 abbrev pub requestIn : Kernel → List ℕ → Frame → Request
 requestIn k arena f = requestOf (k .hz) arena (f .operation) (f .k) (f .y)
 
 -- ---- the answer, with the kernel after it
 
+-- that many are lent
 abbrev pub blankRecords : ℕ → List TaskInfo
 blankRecords room = replicate room blankInfo
 
+-- a list call on them
 abbrev pub listAnswer : Kernel → List ℕ → ℕ → Answer
 listAnswer k arena room = step k (list arena (blankRecords room))
 

@@ -1,4 +1,4 @@
--- A line of the notation of `turns` or `tables`, and the frame that it writes (01, "Program `turns`"; README, "The notation").
+-- A line of the notation of `turns` or `tables`, and the frame that it writes (01, "Program `turns`"; README, "The operations").
 use Prim.Native.Nat.{ℕ, _+_, _-_, _*_}
 use mathlib.Core.Bool.{Bool, _&&_, _||_, not}
 use mathlib.Core.List.{List, [], _∷_}
@@ -78,6 +78,7 @@ yFits operation y = eqb y 0 || usesY operation
 unfoldable pub wordFits : ℕ → ℕ → ℕ → Bool
 wordFits operation k y = not (eqb operation 0x1e) || (leb k 1 && leb y 4095)
 
+-- every operand fits; a line is malformed otherwise
 unfoldable pub operandsFit : ℕ → ℕ → ℕ → Bool
 operandsFit operation k y = every (kFits operation k ∷ yFits operation y ∷ wordFits operation k y ∷ [])
 
@@ -85,7 +86,7 @@ operandsFit operation k y = every (kFits operation k ∷ yFits operation y ∷ w
 abbrev pub malformed : Frame
 malformed = record { operation = Unknown; k = 0; y = 0 }
 
--- 12 lowercase hex digits: operation, k, y; any other line is malformed, one with an unused operand above 0 too
+-- 12 lowercase hex digits: operation, k, y; any other line is malformed, one with an unused operand above 0 too, and 1e out of range
 unfoldable pub frameOf : Bool → Line → Frame
 frameOf tables l =
     if not (isHex l) then malformed

@@ -91,31 +91,31 @@ fn numbered(n: u32) -> Operation
     ensures { λ r. ⌜ r ≡ getD operations n Operation.Unknown ⌝ }
 {
     match n {
-        1 => Operation::Add,
-        2 => Operation::Start,
-        3 => Operation::Tick,
-        4 => Operation::Switch,
-        5 => Operation::Exit,
-        6 => Operation::Wait,
-        7 => Operation::Reap,
-        8 => Operation::Sleep,
-        9 => Operation::Wake,
-        10 => Operation::Lock,
-        11 => Operation::Unlock,
-        12 => Operation::TryLock,
-        13 => Operation::Acquire,
-        14 => Operation::TryAcquire,
-        15 => Operation::Release,
-        16 => Operation::EventWait,
-        17 => Operation::Signal,
-        18 => Operation::Status,
-        19 => Operation::Block,
-        20 => Operation::ReapOne,
-        27 => Operation::List,
-        28 => Operation::CurrentId,
-        29 => Operation::Result,
-        30 => Operation::Word,
-        31 => Operation::Init,
+        0x01 => Operation::Add,
+        0x02 => Operation::Start,
+        0x03 => Operation::Tick,
+        0x04 => Operation::Switch,
+        0x05 => Operation::Exit,
+        0x06 => Operation::Wait,
+        0x07 => Operation::Reap,
+        0x08 => Operation::Sleep,
+        0x09 => Operation::Wake,
+        0x0a => Operation::Lock,
+        0x0b => Operation::Unlock,
+        0x0c => Operation::TryLock,
+        0x0d => Operation::Acquire,
+        0x0e => Operation::TryAcquire,
+        0x0f => Operation::Release,
+        0x10 => Operation::EventWait,
+        0x11 => Operation::Signal,
+        0x12 => Operation::Status,
+        0x13 => Operation::Block,
+        0x14 => Operation::ReapOne,
+        0x1b => Operation::List,
+        0x1c => Operation::CurrentId,
+        0x1d => Operation::Result,
+        0x1e => Operation::Word,
+        0x1f => Operation::Init,
         _ => Operation::Unknown,
     }
 }
@@ -132,20 +132,20 @@ fn operation_of(tables: bool, n: u32) -> Operation
 fn uses_k(operation: u32) -> bool
     ensures { λ r. ⌜ r ≡ usesK operation ⌝ }
 {
-    (operation == 1)
-        | ((10 <= operation) & (operation <= 18))
-        | (operation == 27)
-        | (operation == 29)
-        | (operation == 30)
+    (operation == 0x01)
+        | ((0x0a <= operation) & (operation <= 0x12))
+        | (operation == 0x1b)
+        | (operation == 0x1d)
+        | (operation == 0x1e)
 }
 
 fn uses_y(operation: u32) -> bool
     ensures { λ r. ⌜ r ≡ usesY operation ⌝ }
 {
-    (operation == 1)
-        | (operation == 4)
-        | ((6 <= operation) & (operation <= 9))
-        | ((29 <= operation) & (operation <= 31))
+    (operation == 0x01)
+        | (operation == 0x04)
+        | ((0x06 <= operation) & (operation <= 0x09))
+        | ((0x1d <= operation) & (operation <= 0x1f))
 }
 
 fn k_fits(operation: u32, k: u32) -> bool

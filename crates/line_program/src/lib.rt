@@ -4,7 +4,7 @@ use libc::STDIN_FILENO;
 use libc::STDOUT_FILENO;
 use line_session::Session;
 ghost use mathlib.Core.Path.{_≡_};
-ghost use Prim.Native.Nat.{_*_, _≤_};
+ghost use Prim.Native.Nat.{_*_, _≤_, _<_};
 ghost use lib.ListN.{length};
 ghost use Rattle.kernel.specs.Calls.{Reached};
 ghost use Rattle.line_session.specs.Session.{replyRoom};
@@ -17,7 +17,7 @@ struct Read {
 
 // How many bytes are read at a time: 4,096 × 13 and 7 × 8,894 bytes of replies have room in 65,536.
 fn chunk_bytes(tables: bool) -> usize
-    ensures { λ r. ⌜ (replyRoom tables * r ≤ 65536) × (r ≤ 4096) ⌝ }
+    ensures { λ r. ⌜ (replyRoom tables * r ≤ 65536) × (r ≤ 4096) × (0 < r) ⌝ }
 {
     if tables { 7 } else { 4096 }
 }
@@ -86,15 +86,21 @@ fn asks_help() -> bool {
         & (word[5] == b'p')
 }
 
-// What a line and an answer are, the same in both notations.
-fn write_notation() -> bool {
+// What a line is, and the operations that both notations have.
+fn write_calls() -> bool {
     written(
         b"A call is a line of 12 lowercase hex digits: operation (2), k (2), y (8); what an operation does not use is 0.
   01 add, k priority, y start * 65536 + size    02 start   03 tick   04 switch, y sp   05 exit
   06 wait for id y   07 reap id y   08 sleep y ms   09 wake id y   12 status k   13 block   14 reap one
   0a lock mutex k   0b unlock k   0c try lock k   0d acquire semaphore k   0e try acquire k   0f release k
   10 wait for event k   11 signal k
-An answer is 12 hex digits: number (2), value (8), current slot (2). Number 00 is accepted, ff no call; README.md has the others.
+",
+    )
+}
+
+fn write_answers() -> bool {
+    written(
+        b"An answer is 12 hex digits: number (2), value (8), current slot (2). Number 00 is accepted, ff no call; README.md has the others.
 ",
     )
 }
@@ -105,21 +111,27 @@ fn write_help(tables: bool) {
             b"turns: plays the list of calls on standard input on a fresh kernel, hz 1000, 4096 words, and prints an answer for each.
 ",
         );
-        if begun {
-            write_notation();
+        if begun && write_calls() {
+            write_answers();
         }
         return;
     }
     let begun = written(
-        b"tables: as turns, with five operations more, and after each answer a line with the whole table in decimal.
+        b"tables: plays the list of calls on standard input on a fresh kernel, hz 1000, 4096 words, and prints an answer and the table for each.
 ",
     );
-    if begun && write_notation() {
-        written(
+    if begun && write_calls() {
+        let listed = written(
             b"  1b list, k records lent   1c current id   1d result k, a signed byte, of id y   1f fresh, y hz
   1e no call: word y of the arena becomes 0, or for k 1 the paint
 ",
         );
+        if listed && write_answers() {
+            written(
+                b"Behind that of list stand its records. The line after an answer is the whole table in decimal; README.md has its columns.
+",
+            );
+        }
     }
 }
 

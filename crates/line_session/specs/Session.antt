@@ -1,4 +1,4 @@
--- What the programs `turns` and `tables` make of their input, byte by byte (01, "Program `turns`"; README, "The notation").
+-- What the programs `turns` and `tables` make of their input, byte by byte (01, "Program `turns`"; README, "The operations" and "The table line").
 use Prim.Native.Nat.{ℕ}
 use mathlib.Core.Path.{_≡_}
 use mathlib.Core.Bool.{Bool}

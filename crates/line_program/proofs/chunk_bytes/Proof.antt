@@ -8,5 +8,5 @@ pub chunk-bytes-spec : {M : Type 1} → statement M
 chunk-bytes-spec =
     tie.close
     (tie.spec
-    (λ c. (rw (with-table (c .before .args .tables) (c .if1 .taken)) (omega arith), omega arith))
-    (λ c. (rw (no-table (c .before .args .tables) (c .if1 .left)) (omega arith), omega arith)))
+    (λ c. (rw (with-table (c .before .args .tables) (c .if1 .taken)) (omega arith), omega arith, omega arith))
+    (λ c. (rw (no-table (c .before .args .tables) (c .if1 .left)) (omega arith), omega arith, omega arith)))
