@@ -5,3 +5,4 @@ pub mod BestFirst
 pub mod Kept
 pub mod Invariant
 pub mod TurnGuarantee
+pub mod Wakings

@@ -6,7 +6,7 @@ use leaf_table::internal::answer;
 ghost use mathlib.Core.Path.{_≡_};
 ghost use Prim.Native.Nat.{_<_};
 ghost use Rattle.kernel.specs.Kernel.{semaphore, whole};
-ghost use Rattle.kernel.specs.Calls.{release, number, effect, step};
+ghost use Rattle.kernel.specs.Calls.{release, number, value, effect, accepted, step};
 
 pub mod internal;
 
@@ -25,21 +25,19 @@ fn release_number(k: Kernel, is_whole: bool, s: usize) -> u8
     answer::refuse_if(x.count == u32::MAX, 19, 0)
 }
 
-fn released(k: Kernel, s: usize) -> Kernel
-    requires { ⌜ (s < 4) × (semaphore k s .count < 4294967295) ⌝ }
-    ensures { λ r. ⌜ r ≡ effect k (release s) ⌝ }
+fn released(mut k: Kernel, s: usize) -> Answer
+    requires { ⌜ (s < 4) × (semaphore k s .count ≡ 4294967295 → ⊥) ⌝ }
+    ensures { λ r. ⌜ r ≡ accepted (value k (release s)) (effect k (release s)) ⌝ }
 {
     let x = k.semaphores[s];
-    let q = x.waiters;
-    let waiters = leaf_queue::popped(q);
     let count = x.count + 1;
-    let next = Semaphore { count, waiters };
-    let mut woken = leaf_table::internal::wake_head(k, q);
-    woken.semaphores[s] = next;
-    woken
+    let w = leaf_wake::internal::wake_one(k, x.waiters);
+    let waiters = w.waiters;
+    k.semaphores[s] = Semaphore { count, waiters };
+    answer::woken(k, w.slot)
 }
 
-// Count up, then the head of the queue is dropped and woken; yes where there was one. Refused: 1, 20 and 19.
+// Count up, then heads of the queue are dropped until one was woken; yes where one was. Refused: 1, 20 and 19.
 pub fn release(k: Kernel, s: usize) -> Answer
     ensures { λ r. ⌜ r ≡ step k (release s) ⌝ }
 {

@@ -3,7 +3,6 @@ use crate::signal_number;
 use crate::signalled;
 use kernel::scheduler::Answer;
 use kernel::scheduler::Kernel;
-use kernel::scheduler::Value;
 use leaf_table::internal::answer;
 ghost use mathlib.Core.Path.{_≡_};
 ghost use mathlib.Core.Bool.{true, _||_, not};
@@ -19,7 +18,5 @@ pub fn signal(k: Kernel, known: bool, e: usize) -> Answer
     if number != 0 {
         return answer::refused(number, k);
     }
-    let x = k.events[e];
-    let dropped = x.waiters.len != 0;
-    answer::accepted(Value::YesNo(dropped), signalled(k, e))
+    signalled(k, e)
 }

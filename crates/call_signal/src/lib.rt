@@ -5,7 +5,7 @@ use kernel::scheduler::Kernel;
 use leaf_table::internal::answer;
 ghost use mathlib.Core.Path.{_≡_};
 ghost use Prim.Native.Nat.{_<_};
-ghost use Rattle.kernel.specs.Calls.{signal, number, effect, step};
+ghost use Rattle.kernel.specs.Calls.{signal, number, value, effect, accepted, step};
 ghost use Rattle.kernel.specs.Kernel.{whole};
 
 pub mod internal;
@@ -18,23 +18,22 @@ fn signal_number(k: Kernel, is_whole: bool, e: usize) -> u8
     answer::refuse_if(!is_whole, 1, answer::refuse_if(Kernel::OBJECTS <= e, 20, 0))
 }
 
-fn signalled(k: Kernel, e: usize) -> Kernel
+fn signalled(mut k: Kernel, e: usize) -> Answer
     requires { ⌜ e < 4 ⌝ }
-    ensures { λ r. ⌜ r ≡ effect k (signal e) ⌝ }
+    ensures { λ r. ⌜ r ≡ accepted (value k (signal e)) (effect k (signal e)) ⌝ }
 {
     let x = k.events[e];
-    let q = x.waiters;
-    let waiters = leaf_queue::popped(q);
-    let next = Event {
-        signaled: (q.len == 0) | x.signaled,
+    let w = leaf_wake::internal::wake_one(k, x.waiters);
+    let waiters = w.waiters;
+    let woke = w.slot < Kernel::MAX_TASKS;
+    k.events[e] = Event {
+        signaled: !woke | x.signaled,
         waiters,
     };
-    let mut woken = leaf_table::internal::wake_head(k, q);
-    woken.events[e] = next;
-    woken
+    answer::woken(k, w.slot)
 }
 
-// The head of the queue is dropped and woken; where there is none the event is signalled. Refused: 1 and 20.
+// Heads of the queue are dropped until one was woken, yes; where none was the event is signalled, no. Refused: 1 and 20.
 pub fn signal(k: Kernel, e: usize) -> Answer
     ensures { λ r. ⌜ r ≡ step k (signal e) ⌝ }
 {

@@ -2,7 +2,6 @@
 use kernel::control::TaskId;
 use kernel::scheduler::Answer;
 use kernel::scheduler::Kernel;
-use kernel::scheduler::Value;
 use leaf_table::internal::answer;
 ghost use mathlib.Core.Path.{_≡_};
 ghost use mathlib.Core.Bool.{true, _||_, not};
@@ -18,5 +17,6 @@ pub fn wake_task(k: Kernel, known: bool, id: TaskId) -> Answer
     if number != 0 {
         return answer::refused(number, k);
     }
-    answer::accepted(Value::Nothing, leaf_table::internal::wake(k, id))
+    let slot = leaf_table::internal::blocked_slot(k, id);
+    answer::woken(k, slot)
 }

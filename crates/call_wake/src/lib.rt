@@ -13,6 +13,7 @@ ghost use Rattle.kernel.specs.Calls.{wake, result, step};
 
 pub mod internal;
 
+// Blocked becomes Ready, yes; anything else is accepted unchanged, no. Refused: 1.
 pub fn wake_task(k: Kernel, id: TaskId) -> Answer
     ensures { λ r. ⌜ r ≡ step k (wake id) ⌝ }
 {

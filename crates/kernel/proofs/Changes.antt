@@ -34,11 +34,11 @@ pub data TaskChange : Kind → TaskControl → TaskControl → Type 0 where
   full : {t : TaskControl} → TaskChange ticking t (withRemaining (t .«time_slice») t)
   saved : {t : TaskControl} (sp : ℕ) → TaskChange switching t (contextSaved sp t)
 
--- only current joins
+-- only current joins; heads leave, one after another
 pub data QueueChange (a : TaskId) : WaitQueue → WaitQueue → Type 0 where
   still : {q : WaitQueue} → QueueChange a q q
   joined : {q : WaitQueue} → QueueChange a q (enqueued q a)
-  left : {q : WaitQueue} → QueueChange a q (popped q)
+  left : {q r : WaitQueue} → QueueChange a q r → QueueChange a q (popped r)
 
 -- an owned count up or down, of the task named
 abbrev pub raised : OptionTaskId → Kernel → Kernel

@@ -1,3 +1,4 @@
+pub mod Queue
 pub mod Pick
 pub mod Whole
 pub mod Step

@@ -1,5 +1,5 @@
 -- Every accepted call is made of the changes of its kind.
-use Prim.Native.Nat.{ℕ, _+_, _-_, _<_}
+use Prim.Native.Nat.{ℕ, zero, suc, _+_, _-_, _<_}
 use native.Mathlib.Omega.{arith}
 use mathlib.Core.Path.{_≡_, refl, sym, subst, _∙_}
 use native.Mathlib.Decide.{decLt}
@@ -16,7 +16,7 @@ use Rattle.kernel.specs.Update.{withTasks}
 use Rattle.kernel.specs.Control.{stateNumber, inState, stateOf, holdsTask, unblocked, blankSlot}
 use Rattle.kernel.specs.WaitQueue.{isEmpty, head, popped}
 use Rattle.kernel.specs.Kernel.{slot, at, current, currentTask, currentId, slotOf, isPresent, atId, mutex, semaphore, event, withMutex}
-use Rattle.kernel.specs.Scheduler.{slotAfter, isBest, distance, pick, isReady, priorityOf, nextTask, wakeTick, wakeWaiter, terminated, wakeHead, reapableSlot, ownedUp, ownedDown, isDue, woken, spent, advanced, currentRuns, sliced, contextSaved, saveContext}
+use Rattle.kernel.specs.Scheduler.{slotAfter, isBest, distance, pick, isReady, priorityOf, nextTask, wakeTick, wakeWaiter, terminated, wakes, Waking, dropHeads, wakeOne, reapableSlot, ownedUp, ownedDown, isDue, woken, spent, advanced, currentRuns, sliced, contextSaved, saveContext}
 use Rattle.kernel.specs.Scheduler
 use Rattle.kernel.specs.Mutex
 use Rattle.kernel.specs.Mutex.{ownsMutex, isHanded}
@@ -43,9 +43,9 @@ unblocks : {g : Kind} (t : TaskControl) → TaskChange g t (unblocked t)
 unfolding unblocked
 unblocks {g} t = either (TaskChange g t) (inState Blocked t) (λ _. state Ready refl) (λ _. same)
 
-wakes : (now : ℕ) (t : TaskControl) → TaskChange ticking t (woken now t)
+sleeper-wakes : (now : ℕ) (t : TaskControl) → TaskChange ticking t (woken now t)
 unfolding woken
-wakes now t = either (TaskChange ticking t) (isDue now t) (λ _. state Ready refl) (λ _. same)
+sleeper-wakes now t = either (TaskChange ticking t) (isDue now t) (λ _. state Ready refl) (λ _. same)
 
 spends : (t : TaskControl) → TaskChange ticking t (spent t)
 spends t = either (TaskChange ticking t) (eqb (t .«remaining_slice» - 1) 0) (λ _. full) (λ _. less _ (omega arith))
@@ -69,9 +69,6 @@ wake-waiter : {g : Kind} {k₀ k : Kernel} (a : OptionTaskId) → Changes g k₀
 wake-waiter None cs = cs
 wake-waiter (Some a) cs = at-id a unblocked unblocks cs
 
-wake-head : {g : Kind} {k : Kernel} (q : WaitQueue) → Changes g k (wakeHead q k)
-wake-head {g} {k} q = either (Changes g k) (isEmpty q) (λ _. none) (λ _. at-id (head q) unblocked unblocks none)
-
 owns : {k : Kernel} (m : ℕ) (l : Bool) (from to h : OptionTaskId) (q : WaitQueue) → m < 4 → Hand k m l from to → QueueChange (currentId k) (mutex k m .waiters) q → Changes owning k (withMutex m (record { locked = l; owner = to; «handoff_to» = h; waiters = q }) (raised to (lowered from k)))
 owns {k} m l from to h q i o c = subst (λ (x : Kernel). Changes owning k (withMutex m (record { locked = l; owner = to; «handoff_to» = h; waiters = q }) x)) (moved-tasks from to k) (none then owner m l from to h q i o c)
 
@@ -85,8 +82,19 @@ id-beside : {A : Type 0} (f : Kernel → A) (a : TaskId) (h : TaskControl → Ta
 unfolding atId
 id-beside f a h k e = either (λ k′. f k′ ≡ f k) (isPresent k a) (λ _. e _) (λ _. refl)
 
-head-beside : {A : Type 0} (f : Kernel → A) (q : WaitQueue) (k : Kernel) → ((l : List TaskControl) → f (withTasks l k) ≡ f k) → f (wakeHead q k) ≡ f k
-head-beside f q k e = either (λ k′. f k′ ≡ f k) (isEmpty q) (λ _. refl) (λ _. id-beside f (head q) unblocked k e)
+-- heads dropped until one was woken: the queue gets shorter, a task is woken, and what is read of the objects stays
+pub record Woke (A : Type 0) (f : Kernel → A) (a : TaskId) (g : Kind) (k : Kernel) (q : WaitQueue) (w : Waking) : Type 0 where
+  pub tasks : Changes g k (w .kernel)
+  pub queue : QueueChange a q (w .waiters)
+  pub beside : f (w .kernel) ≡ f k
+
+pub heads : {A : Type 0} (f : Kernel → A) (a : TaskId) {g : Kind} (k : Kernel) (q : WaitQueue) → ((l : List TaskControl) → f (withTasks l k) ≡ f k) → (n : ℕ) (r : WaitQueue) → QueueChange a q r → Woke A f a g k q (dropHeads n r k)
+unfolding dropHeads
+heads f a k q e zero r c = record { tasks = none; queue = c; beside = refl }
+heads f a {g} k q e (suc n) r c =
+    either (Woke _ f a g k q) (wakes (head r) k)
+    (λ _. record { tasks = at-id (head r) unblocked unblocks none; queue = left c; beside = id-beside f (head r) unblocked k e })
+    (λ _. heads f a k q e n (popped r) (left c))
 
 -- ---- what the pick and the reap find
 
@@ -129,7 +137,7 @@ reap-found k h =
 ticked : (k : Kernel) → Whole k → Changes ticking k (Scheduler.tick k)
 unfolding Scheduler.tick sliced advanced
 ticked k w =
-    let cs = none then sweep (woken (k .«tick_count» + 1)) (blank-woken _) (wakes _) then clock in
+    let cs = none then sweep (woken (k .«tick_count» + 1)) (blank-woken _) (sleeper-wakes _) then clock in
     either (Changes ticking k) (k .started && currentRuns (advanced k)) (λ _. cs then task (current k) _ (w .current-slot) (spends _)) (λ _. cs)
 
 switched : (k : Kernel) (sp : ℕ) → Whole k → Changes switching k (Scheduler.switch sp k)
@@ -152,7 +160,7 @@ unlocked k m h o =
     either (Changes owning k) (isEmpty (mutex k m .waiters))
     (λ _. subst (λ (x : Mutex). Changes owning k (withMutex m (record { locked = false; owner = None; «handoff_to» = None; waiters = x .waiters }) (ownedDown a k))) kept (owns m false (Some a) None None _ h (freed o) still))
     (λ _. subst (λ (x : Mutex). Changes owning k (withMutex m (record { locked = true; owner = Some (head (x .waiters)); «handoff_to» = Some (head (x .waiters)); waiters = popped (x .waiters) }) (Scheduler.wake (head (x .waiters)) (ownedUp (head (x .waiters)) (ownedDown a k))))) kept
-    (wake-beside _ (head (mutex k m .waiters)) m _ (owns m true (Some a) (Some (head (mutex k m .waiters))) (Some (head (mutex k m .waiters))) _ h (passed o) left)))
+    (wake-beside _ (head (mutex k m .waiters)) m _ (owns m true (Some a) (Some (head (mutex k m .waiters))) (Some (head (mutex k m .waiters))) _ h (passed o) (left still))))
 
 -- ---- every call
 
@@ -183,9 +191,15 @@ made-of k (acquire s) e =
     let h = accepted-object k (acquire s) s _ e refl in
     either (Changes plain k) (hasPermit s k) (λ _. none then permits s _ _ h still) (λ _. blocks (accepted-is k (acquire s) e) then permits {k = Scheduler.block k} s _ _ h (rw (block-id k) joined))
 made-of k (try-acquire s) e = either (Changes plain k) (hasPermit s k) (λ _. none then permits s _ _ (accepted-object k (try-acquire s) s _ e refl) still) (λ _. none)
-made-of k (release s) e = let q = semaphore k s .waiters in wake-head q then permits {k = wakeHead q k} s _ (popped q) (accepted-object k (release s) s _ e refl) (rw (head-beside (λ k′. semaphore k′ s) q k (λ _. refl)) left)
+made-of k (release s) e =
+    let q = semaphore k s .waiters in
+    let w = heads (λ k′. semaphore k′ s) (currentId (wakeOne q k .kernel)) k q (λ _. refl) (q .len) q still in
+    w .tasks then permits {k = wakeOne q k .kernel} s _ (wakeOne q k .waiters) (accepted-object k (release s) s _ e refl) (rw (w .beside) (w .queue))
 made-of k (event-wait v) e =
     let h = accepted-object k (event-wait v) v _ e refl in
     either (Changes plain k) (event k v .signaled) (λ _. none then flag v _ _ h still) (λ _. blocks (accepted-is k (event-wait v) e) then flag {k = Scheduler.block k} v _ _ h (rw (block-id k) joined))
-made-of k (signal v) e = let q = event k v .waiters in wake-head q then flag {k = wakeHead q k} v _ (popped q) (accepted-object k (signal v) v _ e refl) (rw (head-beside (λ k′. event k′ v) q k (λ _. refl)) left)
+made-of k (signal v) e =
+    let q = event k v .waiters in
+    let w = heads (λ k′. event k′ v) (currentId (wakeOne q k .kernel)) k q (λ _. refl) (q .len) q still in
+    w .tasks then flag {k = wakeOne q k .kernel} v _ (wakeOne q k .waiters) (accepted-object k (signal v) v _ e refl) (rw (w .beside) (w .queue))
 made-of k (list arena records) e = none

@@ -123,7 +123,7 @@ queue-known {a} n z l (joined {q = q}) h = either ok (contains q a) (λ _. h) (�
   where
     ok : WaitQueue → Type 0
     ok x = (j : ℕ) → place x j .0 < n
-queue-known n z l (left {q = q}) h = either (λ x. (j : ℕ) → place x j .0 < n) (isEmpty q) (λ _. h) (λ _. without-known n q 0 z h)
+queue-known n z l (left {r = r} c) h = let g = queue-known n z l c h in either (λ x. (j : ℕ) → place x j .0 < n) (isEmpty r) (λ _. g) (λ _. without-known n r 0 z g)
 
 -- ---- counting
 

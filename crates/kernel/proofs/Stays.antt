@@ -52,7 +52,7 @@ queue-fits : {a : TaskId} {q r : WaitQueue} → QueueChange a q r → q .len ≤
 unfolding enqueued pushed popped without
 queue-fits still h = h
 queue-fits {a} (joined {q = q}) h = either (λ (x : WaitQueue). x .len ≤ 8) (contains q a) (λ _. h) (λ _. either (λ (x : WaitQueue). x .len ≤ 8) (isFull q) (λ _. h) (λ e. omega (arith, leb-false 8 (q .len) e)))
-queue-fits (left {q = q}) h = either (λ (x : WaitQueue). x .len ≤ 8) (isEmpty q) (λ _. h) (λ _. omega arith)
+queue-fits (left {r = r} c) h = let g = queue-fits c h in either (λ (x : WaitQueue). x .len ≤ 8) (isEmpty r) (λ _. g) (λ _. omega arith)
 
 -- ---- a kernel whose tasks stay
 

@@ -13,7 +13,7 @@ use Rattle.kernel.specs.Control.{inState, sameId, stateOf, regionFits, s
 use Rattle.kernel.specs.WaitQueue.{contains, isFull, isEmpty}
 use Rattle.kernel.specs.Kernel.{slot, current, currentTask, currentId, slotOf, isPresent, mutex, semaphore, event, arenaFits, whole, blankKernel, freshKernel}
 use Rattle.kernel.specs.Scheduler
-use Rattle.kernel.specs.Scheduler.{pick, nextTask, saveContext, reapableSlot, lowestEmpty, overlapsPresent, nextId, wantsSwitch}
+use Rattle.kernel.specs.Scheduler.{pick, nextTask, wakes, wakeOne, saveContext, reapableSlot, lowestEmpty, overlapsPresent, nextId, wantsSwitch}
 use Rattle.kernel.specs.Mutex
 use Rattle.kernel.specs.Mutex.{ownsMutex, isHanded, lockAnswer}
 use Rattle.kernel.specs.Semaphore
@@ -195,7 +195,7 @@ value k current-id = Id (currentId k)
 value k (status s) = Nothing
 value k block = Nothing
 value k (sleep ticks) = Nothing
-value k (wake a) = Nothing
+value k (wake a) = YesNo (wakes a k)
 value k exit = Nothing
 value k (wait a) = Nothing
 value k (reap a) = Region (slot k (slotOf k a) .stack)
@@ -206,9 +206,9 @@ value k (try-lock m) = YesNo (not (mutex k m .locked))
 value k (unlock m) = YesNo (not (isEmpty (mutex k m .waiters)))
 value k (acquire s) = YesNo (hasPermit s k)
 value k (try-acquire s) = YesNo (hasPermit s k)
-value k (release s) = YesNo (not (isEmpty (semaphore k s .waiters)))
+value k (release s) = YesNo (wakeOne (semaphore k s .waiters) k .woke)
 value k (event-wait e) = YesNo (event k e .signaled)
-value k (signal e) = YesNo (not (isEmpty (event k e .waiters)))
+value k (signal e) = YesNo (wakeOne (event k e .waiters) k .woke)
 value k (list arena records) = Count (k .«task_count»)
 
 -- the value as `turns` prints it: id, slot, region start, 1 or 0 for yes or no, 0xffffffff for no region, otherwise 0; for list, which is no operation of `turns`, the count. Contracts equate the value itself.

@@ -1,4 +1,4 @@
--- Document 01's machine. To be read in this order.
+-- The machine of document 01, as document 02 has changed it: W-201. To be read in this order.
 pub mod Types
 pub mod Update
 pub mod Control

@@ -1,5 +1,5 @@
 -- What each call on the scheduler does where nothing refuses it (sched/scheduler.rs).
-use Prim.Native.Nat.{ℕ, _+_, _-_, _%_, _^_, min}
+use Prim.Native.Nat.{ℕ, zero, suc, _+_, _-_, _%_, _^_, min}
 use mathlib.Core.Bool.{Bool, true, false, _&&_, _||_, not}
 use mathlib.Core.List.{map}
 use lib.Dec.{eqb, leb, ltb}
@@ -10,8 +10,8 @@ use Rattle.base.specs.Below.{allBelow, anyBelow, lowestBelow}
 use Rattle.kernel.specs.Types.{TaskId, Priority, OptionTaskId, None, Some, TaskState, Ready, Running, Blocked, Sleeping, Terminated, StackRegion, TaskControl, WaitQueue, Kernel}
 use Rattle.kernel.specs.Update.{withState, withWakeTick, withRemaining, withOwned, withWaiter, withSp, withResult, withTasks, withCharges, withTickCount, withStarted, withCurrent, withTaskCount, withNextId}
 use Rattle.kernel.specs.Control.{inState, holdsTask, unblocked, blankSlot, newTask, regionsOverlap}
-use Rattle.kernel.specs.WaitQueue.{isEmpty, head}
-use Rattle.kernel.specs.Kernel.{slot, charge, at, current, currentTask, currentId, slotOf, atId}
+use Rattle.kernel.specs.WaitQueue.{head, popped}
+use Rattle.kernel.specs.Kernel.{slot, charge, at, current, currentTask, currentId, slotOf, isPresent, atId}
 
 -- ---- next_task
 
@@ -60,6 +60,10 @@ sleep ticks k = at (current k) (λ t. withWakeTick (wakeTick ticks k) (withState
 abbrev pub wake : TaskId → Kernel → Kernel
 wake a k = atId a unblocked k
 
+-- what wake tells: whether it turns a Blocked task Ready (02, W-201)
+abbrev pub wakes : TaskId → Kernel → Bool
+wakes a k = isPresent k a && inState Blocked (slot k (slotOf k a))
+
 abbrev pub wakeWaiter : OptionTaskId → Kernel → Kernel
 wakeWaiter None k = k
 wakeWaiter (Some a) k = wake a k
@@ -98,9 +102,21 @@ ownedUp a k = atId a (λ t. withOwned (t .«owned_mutex_count» + 1) t) k
 abbrev pub ownedDown : TaskId → Kernel → Kernel
 ownedDown a k = atId a (λ t. withOwned (t .«owned_mutex_count» - 1) t) k
 
--- the head of a queue is woken, if there is one
-abbrev pub wakeHead : WaitQueue → Kernel → Kernel
-wakeHead q k = if isEmpty q then k else wake (head q) k
+-- a queue's waiters and the kernel once heads were dropped, and whether one was woken
+pub record Waking : Type 0 where
+  pub waiters : WaitQueue
+  pub kernel : Kernel
+  pub woke : Bool
+
+-- Heads are dropped until one was woken or the queue is empty (02, W-201); n is how many wait.
+unfoldable pub dropHeads : ℕ → WaitQueue → Kernel → Waking
+dropHeads zero q k = record { waiters = q; kernel = k; woke = false }
+dropHeads (suc n) q k =
+    if wakes (head q) k then record { waiters = popped q; kernel = wake (head q) k; woke = true }
+    else dropHeads n (popped q) k
+
+abbrev pub wakeOne : WaitQueue → Kernel → Waking
+wakeOne q k = dropHeads (q .len) q k
 
 -- ---- add
 

@@ -4,9 +4,9 @@ use mathlib.Core.Bool.{Bool}
 use lib.Dec.{ltb}
 use Rattle.base.specs.Choice.{if_then_else_}
 use Rattle.kernel.specs.Types.{Kernel}
-use Rattle.kernel.specs.WaitQueue.{popped, enqueued}
+use Rattle.kernel.specs.WaitQueue.{enqueued}
 use Rattle.kernel.specs.Kernel.{currentId, semaphore, withSemaphore}
-use Rattle.kernel.specs.Scheduler.{block, wakeHead}
+use Rattle.kernel.specs.Scheduler.{block, wakeOne}
 
 abbrev pub hasPermit : ℕ → Kernel → Bool
 hasPermit s k = ltb 0 (semaphore k s .count)
@@ -23,6 +23,8 @@ acquire s k = if hasPermit s k then permitTaken s k else blockedOnSemaphore s k
 unfoldable pub tryAcquire : ℕ → Kernel → Kernel
 tryAcquire s k = if hasPermit s k then permitTaken s k else k
 
--- count up, then wake one
+-- count up in any case, then heads are dropped until one was woken or the queue is empty
 unfoldable pub release : ℕ → Kernel → Kernel
-release s k = withSemaphore s (record { count = semaphore k s .count + 1; waiters = popped (semaphore k s .waiters) }) (wakeHead (semaphore k s .waiters) k)
+release s k =
+    let w = wakeOne (semaphore k s .waiters) k in
+    withSemaphore s (record { count = semaphore k s .count + 1; waiters = w .waiters }) (w .kernel)

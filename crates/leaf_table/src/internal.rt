@@ -7,14 +7,14 @@ use kernel::control::TaskId;
 use kernel::control::TaskState;
 use kernel::internal::one_less;
 use kernel::scheduler::Kernel;
-use kernel::wait_queue::WaitQueue;
 ghost use mathlib.Core.Path.{_≡_};
+ghost use Rattle.base.specs.Choice.{if_then_else_};
 ghost use Prim.Native.Nat.{_≤_, _<_};
 ghost use Rattle.kernel.specs.Control.{unblocked};
 ghost use Rattle.kernel.specs.Kernel.{slot, current, currentTask, currentId, slotOf, whole};
 ghost use Rattle.kernel.specs.Calls.{firstOf, notWhole, noObject, notStarted};
 ghost use mathlib.Core.List.{[], _∷_};
-ghost use Rattle.kernel.specs.Scheduler.{setStatus, wake, wakeHead, ownedUp, ownedDown};
+ghost use Rattle.kernel.specs.Scheduler.{setStatus, wake, wakes, ownedUp, ownedDown};
 
 // What a call on an object asks first where it needs the kernel started: 1 not whole; 20 object above 3; 2 not started.
 pub fn object_number(k: Kernel, is_whole: bool, o: usize) -> u8
@@ -91,15 +91,17 @@ pub fn wake(mut k: Kernel, id: TaskId) -> Kernel
     k
 }
 
-// The head of the queue, if there is one, is woken.
-pub fn wake_head(k: Kernel, q: WaitQueue) -> Kernel
-    ensures { λ r. ⌜ r ≡ wakeHead q k ⌝ }
+// The slot of that id if the task there is Blocked; 16 elsewhere.
+pub fn blocked_slot(k: Kernel, id: TaskId) -> usize
+    ensures { λ r. ⌜ r ≡ (if wakes id k then slotOf k id else 16) ⌝ }
 {
-    if q.len == 0 {
-        return k;
+    let i = slot_of(k, id);
+    if Kernel::MAX_TASKS <= i {
+        return Kernel::MAX_TASKS;
     }
-    let id = q.ids[0];
-    wake(k, id)
+    let t = k.tasks[i];
+    let blocked = t.is_blocked();
+    if blocked { i } else { Kernel::MAX_TASKS }
 }
 
 // `mutex_acquired` of the source.

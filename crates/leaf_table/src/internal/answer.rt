@@ -1,9 +1,13 @@
-// A chain of checks, and the two kinds of answer.
+// A chain of checks, the two kinds of answer, and the answer of a wake.
+use kernel::control::TaskState;
 use kernel::scheduler::Answer;
 use kernel::scheduler::Kernel;
 use kernel::scheduler::Value;
+ghost use lib.Dec.{ltb};
 ghost use mathlib.Core.Path.{_≡_};
 ghost use Rattle.base.specs.Choice.{if_then_else_};
+ghost use Rattle.kernel.specs.Update.{withState};
+ghost use Rattle.kernel.specs.Kernel.{at};
 ghost use Rattle.kernel.specs.Calls.{refused, accepted};
 
 // The number of a check that refuses, else what the checks after it say.
@@ -32,4 +36,17 @@ pub fn accepted(value: Value, kernel: Kernel) -> Answer
         value,
         kernel,
     }
+}
+
+// The task in slot i is made Ready, yes; 16 is none, no.
+pub fn woken(mut k: Kernel, i: usize) -> Answer
+    ensures { λ r. ⌜ r ≡ accepted (Value.YesNo (ltb i 16)) (if ltb i 16 then at i (withState TaskState.Ready) k else k) ⌝ }
+{
+    if Kernel::MAX_TASKS <= i {
+        return accepted(Value::YesNo(false), k);
+    }
+    let t = k.tasks[i];
+    let next = t.with_state(TaskState::Ready);
+    k.tasks[i] = next;
+    accepted(Value::YesNo(true), k)
 }

@@ -1,0 +1,2 @@
+// What release and signal share. No calls.
+pub mod internal;
