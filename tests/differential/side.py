@@ -1,7 +1,7 @@
 #!/usr/bin/env python3
 """What stands beside the lists of the compared domain. The exported pick is held against `next_task`, and `ms_to_ticks`, as sleep
 shows it in the tables, against the published one. Each line of differences.txt is seen: what the Rust does there, and that
-`tables` refuses with that number and changes nothing.
+`tables` refuses with that number and changes nothing or, for W-201, does what the line says.
 
   side.py REFERENCE TABLES PICK LIST
     REFERENCE   the program of tests/differential/build
@@ -96,20 +96,27 @@ def ticks(reference, program, path):
 def differences(reference, program):
     with open(os.path.join(os.path.dirname(os.path.abspath(__file__)), "differences.txt")) as file:
         rows = [line.rstrip("\n").split(" | ") for line in file if not line.startswith("#")]
-    refused = 0
+    refused = ruled = 0
+    last = lambda printed: [printed[-2], printed[-1].partition(" | ")[0]]
     for number, words, answer, *slots in rows:
-        lines = words.split()
+        lines, other = words.split(), slots[1:]
         given = "".join(line.replace("_", " ") + "\n" for line in lines)
         got = said(reference, "raw", given=given)
-        got = got[-1:] if answer.startswith("panic: ") else [got[-2], got[-1].partition(" | ")[0]]
-        if not got[0].startswith(answer) or got[1:] != slots:
+        got = got[-1:] if answer.startswith("panic: ") else last(got)
+        if not got[0].startswith(answer) or got[1:] != slots[:1]:
             fail(f"differences: {words}: the Rust prints {got}")
-        if "_" not in words:
+        if number == "W-201":
+            got = last(said(program, given=given))
+            if got != other or got[1] == slots[0]:
+                fail(f"differences: {words}: the code prints {got}")
+            ruled += 1
+        elif "_" not in words:
             got = said(program, given="030000000000\n" * (len(lines) == 1) + given)
             if got[-2][:10] != number + "00000000" or got[-1] != got[-3]:
                 fail(f"differences: {words}: the code prints {got[-2:]}")
             refused += 1
-    print(f"differences: {len(rows)} seen in the Rust; {refused} of their lists can be given to tables, which refuses each")
+    print(f"differences: {len(rows)} seen in the Rust; {refused} of their lists can be given to tables, which refuses each; "
+          f"{ruled} are W-201's, and tables follows it")
 
 
 def main():

@@ -1,5 +1,6 @@
-"""The cases of tests/cases: lists from fresh with answers worked out by hand from documents 01 and 04. Each is held against the
-model and, where a call is in the compared domain, against the Rust; of other lines the reference has to say 01's number.
+"""The cases of tests/cases: lists from fresh with answers worked out by hand from documents 01, 02 and 04. Each is held against
+the model and, where a call is in the compared domain, against the Rust; of other lines the reference has to say 01's number. At
+a release or signal that drops a head which is not Blocked it has to say W-201; from there on the list is held to the model alone.
 
   cases.py [DIR]    with DIR, also writes each list and what is printed for it: DIR/NAME.in and DIR/NAME.out for `turns`,
                     DIR/tables/NAME.in and DIR/tables/NAME.out for `tables`
@@ -63,8 +64,20 @@ def eight_queued(call):
     """Tasks 1 to 8 make the call and are queued; task 4 makes it again, then task 9."""
     return [*added(*[128] * 10), (START, ok(1, 1)),
             *[pair for at in range(1, 9) for pair in ((call, ok(0, at)), (switch(at - 1), ok(at + 1, at + 1)))],
-            (WAKE(4), ok(0, 9)), (BLOCK, ok(0, 9)), (switch(8), ok(10, 10)), (BLOCK, ok(0, 10)), (switch(9), ok(4, 4)),
-            (call, ok(0, 4)), (WAKE(9), ok(0, 4)), (switch(3), ok(9, 9)), (call, no(12, 9))]
+            (WAKE(4), ok(1, 9)), (BLOCK, ok(0, 9)), (switch(8), ok(10, 10)), (BLOCK, ok(0, 10)), (switch(9), ok(4, 4)),
+            (call, ok(0, 4)), (WAKE(9), ok(1, 4)), (switch(3), ok(9, 9)), (call, no(12, 9))]
+
+
+def eight_dropped(call, drop, seven, eight):
+    """Tasks 1 to 8 make the call on objects 0 and 1 and are queued at both; task 9 wakes 1 to 7 by hand and drops the queues, first
+    that of 1, where 8 is Blocked. Semaphores and events after each."""
+    slots = [f"{at},{at},0,128,0,5,5,0,-,{8128 + 64 * at},64,{8188 + 64 * at},0" for at in range(1, 9)]
+    slots = [UNTOUCHED, *slots, "9,9,1,128,0,5,5,0,-,8704,64,8768,0"]
+    return [*added(*[128] * 9), (START, ok(1, 1)),
+            *[pair for at in range(1, 9)
+              for pair in ((call(0), ok(0, at)), (call(1), ok(0, at)), (switch(at - 1), ok(at + 1, at + 1)))],
+            *[(WAKE(id), ok(1, 9)) for id in range(1, 8)],
+            (drop(1), ok(1, 9), table(slots, "0,1,9,10,10", **seven)), (drop(0), ok(0, 9), table(slots, "0,1,9,10,10", **eight))]
 
 
 UNTOUCHED = "0,0,0,255,0,1,1,0,-,0,8192,8192,0"     # idle, Ready, as fresh makes it
@@ -107,8 +120,8 @@ turns("sleep-zero", "Sleep 0 at tick 7: Ready at tick 8 (01, Exam cases, Traps)"
 turns("eight-queued-mutex", "Eight queued: one of them locks again, a ninth is 12 (01, Exam cases)",
       *added(*[128] * 11), (START, ok(1, 1)), (LOCK(0), ok(1, 1)), (switch(0), ok(2, 2)),
       *[pair for at in range(2, 10) for pair in ((LOCK(0), ok(0, at)), (switch(at - 1), ok(at + 1, at + 1)))],
-      (WAKE(4), ok(0, 10)), (BLOCK, ok(0, 10)), (switch(9), ok(11, 11)), (BLOCK, ok(0, 11)), (switch(10), ok(1, 1)),
-      (BLOCK, ok(0, 1)), (switch(0), ok(4, 4)), (LOCK(0), ok(0, 4)), (WAKE(10), ok(0, 4)), (switch(3), ok(10, 10)),
+      (WAKE(4), ok(1, 10)), (BLOCK, ok(0, 10)), (switch(9), ok(11, 11)), (BLOCK, ok(0, 11)), (switch(10), ok(1, 1)),
+      (BLOCK, ok(0, 1)), (switch(0), ok(4, 4)), (LOCK(0), ok(0, 4)), (WAKE(10), ok(1, 4)), (switch(3), ok(10, 10)),
       (LOCK(0), no(12, 10)))
 
 turns("eight-queued-semaphore", "The same with acquire (01, Exam cases)", *eight_queued(ACQUIRE(0)))
@@ -129,14 +142,73 @@ turns("ids-are-no-slots", "Slot 1 holds id 2 after a reap; idle is slot 0, and c
 turns("idle-does-not-exit", "Exit in slot 0 is 10 (01, Traps)",
       (START, ok(0, 0)), (EXIT, no(10, 0)))
 
-turns("lost-signal", "The popped task was not Blocked: the signal is not kept, and the next event wait blocks (01, Traps)",
-      *added(128, 128), (START, ok(1, 1)), (EVENT_WAIT(0), ok(0, 1)), (WAKE(1), ok(0, 1)), (SIGNAL(0), ok(1, 1)),
-      (EVENT_WAIT(0), ok(0, 1)))
-
 turns("reaped-waiter", "The id of a recorded waiter that has been reaped still gives 9 (01, Traps)",
-      *added(128, 128, 128), (START, ok(1, 1)), (WAIT(2), ok(0, 1)), (WAKE(1), ok(0, 1)), (EXIT, ok(0, 1)), (switch(0), ok(2, 2)),
+      *added(128, 128, 128), (START, ok(1, 1)), (WAIT(2), ok(0, 1)), (WAKE(1), ok(1, 1)), (EXIT, ok(0, 1)), (switch(0), ok(2, 2)),
       (REAP(1), ok(0x2000, 2)), (SLEEP(1), ok(0, 2)), (switch(1), ok(3, 3)), (WAIT(2), no(9, 3)), (WAIT(3), no(7, 3)),
       (WAIT(1), no(8, 3)), (WAIT(0), ok(0, 3)))
+
+# W-201: heads that are not Blocked
+
+turns("signal-for-a-task-not-blocked",
+      "01's trap turned round: the head was woken by hand, the signal is kept, and the next event wait answers 1 (02, W-201; 05, 11)",
+      *added(128, 128), (START, ok(1, 1)), (EVENT_WAIT(0), ok(0, 1)), (WAKE(1), ok(1, 1)), (SIGNAL(0), ok(0, 1)),
+      (EVENT_WAIT(0), ok(1, 1)), (EVENT_WAIT(0), ok(0, 1)))
+
+turns("wake-yes-or-no",
+      "Wake is 1 for a Blocked task alone: not for one in another state, not for an unknown id, not before the start (02, W-201; 05, 5)",
+      *added(128, 128, 128), (WAKE(1), ok(0, 0)), (WAKE(0), ok(0, 0)), (WAKE(9), ok(0, 0)), (START, ok(1, 1)), (WAKE(1), ok(0, 1)),
+      (WAKE(2), ok(0, 1)), (WAKE(9), ok(0, 1)), (BLOCK, ok(0, 1)), (WAKE(1), ok(1, 1)), (WAKE(1), ok(0, 1)), (SLEEP(5), ok(0, 1)),
+      (WAKE(1), ok(0, 1)), (status(4), ok(0, 1)), (WAKE(1), ok(0, 1)), (EXIT, ok(0, 1)), (WAKE(1), ok(0, 1)), (switch(0), ok(2, 2)),
+      (REAP(1), ok(0x2000, 2)), (WAKE(1), ok(0, 2)), (BLOCK, ok(0, 2)), (switch(1), ok(3, 3)), (WAKE(2), ok(1, 3)), (WAKE(2), ok(0, 3)),
+      (switch(2), ok(2, 2)))
+
+turns("release-past-a-task-not-blocked",
+      "A head that is up is dropped and the next one woken; the one behind that waits for the next release (02, W-201; 05, 8, 9)",
+      *added(128, 128, 128, 128), (START, ok(1, 1)), (ACQUIRE(0), ok(0, 1)), (switch(0), ok(2, 2)), (ACQUIRE(0), ok(0, 2)),
+      (switch(1), ok(3, 3)), (ACQUIRE(0), ok(0, 3)), (switch(2), ok(4, 4)), (WAKE(1), ok(1, 4)), (RELEASE(0), ok(1, 4)),
+      (switch(3), ok(1, 1)), (BLOCK, ok(0, 1)), (switch(0), ok(2, 2)), (BLOCK, ok(0, 2)), (switch(1), ok(4, 4)), (RELEASE(0), ok(1, 4)),
+      (switch(3), ok(3, 3)), (RELEASE(0), ok(0, 3)), *[(TRY_ACQUIRE(0), ok(1, 3))] * 3, (TRY_ACQUIRE(0), ok(0, 3)))
+
+turns("release-with-none-blocked",
+      "No head is Blocked: all are dropped, the answer is 0, and the count is up; dropped ones are not woken later (02, W-201; 05, 6)",
+      *added(128, 128, 128), (START, ok(1, 1)), (ACQUIRE(0), ok(0, 1)), (switch(0), ok(2, 2)), (ACQUIRE(0), ok(0, 2)),
+      (switch(1), ok(3, 3)), (WAKE(1), ok(1, 3)), (WAKE(2), ok(1, 3)), (RELEASE(0), ok(0, 3)), (TRY_ACQUIRE(0), ok(1, 3)),
+      (TRY_ACQUIRE(0), ok(0, 3)), (switch(2), ok(1, 1)), (BLOCK, ok(0, 1)), (switch(0), ok(2, 2)), (BLOCK, ok(0, 2)),
+      (switch(1), ok(3, 3)), (RELEASE(0), ok(0, 3)), (switch(2), ok(3, 3)))
+
+turns("signal-past-every-other-state",
+      "Heads that are Sleeping, Suspended, Terminated, gone, Running and Ready are dropped, the Blocked one is woken (02, W-201; 05, 8)",
+      *added(*[128] * 7), (START, ok(1, 1)), (EVENT_WAIT(0), ok(0, 1)), (SLEEP(50), ok(0, 1)), (switch(0), ok(2, 2)),
+      (EVENT_WAIT(0), ok(0, 2)), (status(4), ok(0, 2)), (switch(1), ok(3, 3)), (EVENT_WAIT(0), ok(0, 3)), (EXIT, ok(0, 3)),
+      (switch(2), ok(4, 4)), (EVENT_WAIT(0), ok(0, 4)), (EXIT, ok(0, 4)), (switch(3), ok(5, 5)), (REAP(4), ok(0x20c0, 5)),
+      (EVENT_WAIT(0), ok(0, 5)), (switch(4), ok(6, 6)), (EVENT_WAIT(0), ok(0, 6)), (switch(5), ok(7, 7)), (EVENT_WAIT(0), ok(0, 7)),
+      (WAKE(5), ok(1, 7)), (WAKE(6), ok(1, 7)), (switch(6), ok(5, 5)), (SIGNAL(0), ok(1, 5)), (EVENT_WAIT(0), ok(0, 5)),
+      (switch(4), ok(6, 6)), (BLOCK, ok(0, 6)), (switch(5), ok(7, 7)))
+
+turns("signal-with-none-blocked",
+      "No head is Blocked: all are dropped, the answer is 0, and the flag is set; set already, it stays so (02, W-201; 05, 7)",
+      *added(128, 128, 128), (START, ok(1, 1)), (EVENT_WAIT(0), ok(0, 1)), (SLEEP(9), ok(0, 1)), (switch(0), ok(2, 2)),
+      (EVENT_WAIT(0), ok(0, 2)), (switch(1), ok(3, 3)), (WAKE(2), ok(1, 3)), (SIGNAL(0), ok(0, 3)), (SIGNAL(0), ok(0, 3)),
+      (EVENT_WAIT(0), ok(1, 3)), (EVENT_WAIT(0), ok(0, 3)), (switch(2), ok(2, 2)), (SIGNAL(0), ok(1, 2)), (switch(1), ok(3, 3)))
+
+turns("signal-that-woke-one", "A signal that woke one sets no flag, and the next event wait blocks (02, W-201; 05, 7)",
+      *added(128, 128), (START, ok(1, 1)), (EVENT_WAIT(0), ok(0, 1)), (switch(0), ok(2, 2)), (SIGNAL(0), ok(1, 2)),
+      (EVENT_WAIT(0), ok(0, 2)), (switch(1), ok(1, 1)))
+
+turns("signal-for-a-task-that-is-gone", "The one head is gone: it is dropped, and the signal is kept (02, W-201; 05, 8)",
+      *added(128, 128), (START, ok(1, 1)), (EVENT_WAIT(0), ok(0, 1)), (EXIT, ok(0, 1)), (switch(0), ok(2, 2)), (REAP(1), ok(0x2000, 2)),
+      (SIGNAL(0), ok(0, 2)), (EVENT_WAIT(0), ok(1, 2)))
+
+turns("release-to-a-revived-head",
+      "Its state alone counts: a head that has ended and was made Blocked by status is woken, one made Ready is dropped (02, W-201)",
+      *added(128, 128, 128), (START, ok(1, 1)), (ACQUIRE(0), ok(0, 1)), (EXIT, ok(0, 1)), (status(0), ok(0, 1)), (switch(0), ok(2, 2)),
+      (ACQUIRE(0), ok(0, 2)), (EXIT, ok(0, 2)), (status(2), ok(0, 2)), (switch(1), ok(3, 3)), (RELEASE(0), ok(1, 3)), (switch(2), ok(1, 1)),
+      (BLOCK, ok(0, 1)), (switch(0), ok(2, 2)))
+
+turns("head-blocked-at-another-object",
+      "A head that is Blocked for another reason is woken too; in its other queue it is up then, and dropped (02, W-201; 05, 8)",
+      *added(128, 128), (START, ok(1, 1)), (EVENT_WAIT(0), ok(0, 1)), (ACQUIRE(0), ok(0, 1)), (switch(0), ok(2, 2)), (SIGNAL(0), ok(1, 2)),
+      (RELEASE(0), ok(0, 2)), (TRY_ACQUIRE(0), ok(1, 2)), (switch(1), ok(1, 1)), (EVENT_WAIT(0), ok(0, 1)))
 
 # Mutexes and waiters
 
@@ -151,6 +223,23 @@ turns("handoff-not-taken-up", "A mutex handed on can be unlocked at once; once m
 turns("exit-wakes-waiter", "Exit wakes the waiter; status Ready revives, and exit with a mutex is then 11 (01, state calls; 03, 12)",
       *added(128, 128), (START, ok(1, 1)), (WAIT(2), ok(0, 1)), (WAIT(2), ok(0, 1)), (switch(0), ok(2, 2)), (EXIT, ok(0, 2)),
       (status(0), ok(0, 2)), (LOCK(0), ok(1, 2)), (switch(1), ok(1, 1)), (switch(0), ok(2, 2)), (EXIT, no(11, 2)))
+
+turns("handoff-to-a-task-not-blocked",
+      "Unlock keeps its rule: one head, handed the mutex though it is up, and 1; the next one stays queued (02, W-201; 05, 10)",
+      *added(128, 128, 128), (START, ok(1, 1)), (LOCK(0), ok(1, 1)), (switch(0), ok(2, 2)), (LOCK(0), ok(0, 2)), (switch(1), ok(3, 3)),
+      (LOCK(0), ok(0, 3)), (switch(2), ok(1, 1)), (WAKE(2), ok(1, 1)), (UNLOCK(0), ok(1, 1)), (switch(0), ok(2, 2)), (LOCK(0), ok(1, 2)),
+      (UNLOCK(0), ok(1, 2)), (switch(1), ok(3, 3)), (LOCK(0), ok(1, 3)))
+
+turns("handoff-to-a-task-that-is-gone",
+      "Unlock keeps its rule: a head that is gone gets the mutex, and 1; the Blocked one behind it is not woken (02, W-201; 05, 10)",
+      *added(128, 128, 128), (START, ok(1, 1)), (LOCK(0), ok(1, 1)), (switch(0), ok(2, 2)), (LOCK(0), ok(0, 2)), (EXIT, ok(0, 2)),
+      (switch(1), ok(3, 3)), (LOCK(0), ok(0, 3)), (REAP(2), ok(0x2040, 3)), (switch(2), ok(1, 1)), (UNLOCK(0), ok(1, 1)),
+      (switch(0), ok(1, 1)), (TRY_LOCK(0), ok(0, 1)), (UNLOCK(0), no(14, 1)))
+
+turns("exit-with-a-sleeping-waiter",
+      "Exit's waiter is as before: one that sleeps is taken and not woken, and another may wait then (02, W-201; 05, 10)",
+      *added(128, 128, 128), (START, ok(1, 1)), (WAIT(2), ok(0, 1)), (SLEEP(9), ok(0, 1)), (switch(0), ok(2, 2)), (EXIT, ok(0, 2)),
+      (status(0), ok(0, 2)), (switch(1), ok(3, 3)), (WAIT(2), ok(0, 3)), (switch(2), ok(2, 2)))
 
 # Refusals
 
@@ -220,6 +309,48 @@ tables("no-call", "ff: operands out of range or unused, operations that are not 
            "", "1b01", "1c000000000", "1c00000000000", "1B0100000000", "1c0000000000 ")],
        (START, ok(0, 0)), ("1e0200000000", no(255, 0), table(["0,0,1,255,0,1,1,0,-,0,8192,8192,0"], "0,1,0,1,1")),
        (records(1), ok(1, 0, "0,1,255,0,8192")))
+
+# W-201: the queues in the table
+
+tables("heads-before-the-woken-one",
+       "Two heads are up: dropped; the third is woken, and those behind keep their places and are woken in order (02, W-201; 05, 9)",
+       *added(*[128] * 6), (START, ok(1, 1)),
+       *[pair for at in range(1, 6) for pair in ((ACQUIRE(2), ok(0, at)), (switch(at - 1), ok(at + 1, at + 1)))],
+       (WAKE(1), ok(1, 6)),
+       (WAKE(2), ok(1, 6),
+        table([UNTOUCHED, "1,1,0,128,0,5,5,0,-,8192,64,8252,0", "2,2,0,128,0,5,5,0,-,8256,64,8316,0", "3,3,2,128,0,5,5,0,-,8320,64,8380,0",
+               "4,4,2,128,0,5,5,0,-,8384,64,8444,0", "5,5,2,128,0,5,5,0,-,8448,64,8508,0", "6,6,1,128,0,5,5,0,-,8512,64,8576,0"],
+              "0,1,6,7,7", semaphores="0,[]; 0,[]; 0,[1 2 3 4 5]; 0,[];")),
+       (RELEASE(2), ok(1, 6),
+        table([UNTOUCHED, "1,1,0,128,0,5,5,0,-,8192,64,8252,0", "2,2,0,128,0,5,5,0,-,8256,64,8316,0", "3,3,0,128,0,5,5,0,-,8320,64,8380,0",
+               "4,4,2,128,0,5,5,0,-,8384,64,8444,0", "5,5,2,128,0,5,5,0,-,8448,64,8508,0", "6,6,1,128,0,5,5,0,-,8512,64,8576,0"],
+              "0,1,6,7,7", semaphores="0,[]; 0,[]; 1,[4 5]; 0,[];")),
+       (RELEASE(2), ok(1, 6),
+        table([UNTOUCHED, "1,1,0,128,0,5,5,0,-,8192,64,8252,0", "2,2,0,128,0,5,5,0,-,8256,64,8316,0", "3,3,0,128,0,5,5,0,-,8320,64,8380,0",
+               "4,4,0,128,0,5,5,0,-,8384,64,8444,0", "5,5,2,128,0,5,5,0,-,8448,64,8508,0", "6,6,1,128,0,5,5,0,-,8512,64,8576,0"],
+              "0,1,6,7,7", semaphores="0,[]; 0,[]; 2,[5]; 0,[];")))
+
+tables("dropped-heads-stay-as-they-are",
+       "Dropped heads keep their states: Sleeping, Suspended, Terminated; the last is gone; none was woken, so the flag is set (02, W-201)",
+       *added(*[128] * 5), (START, ok(1, 1)), (EVENT_WAIT(3), ok(0, 1)), (SLEEP(7), ok(0, 1)), (switch(0), ok(2, 2)),
+       (EVENT_WAIT(3), ok(0, 2)), (status(4), ok(0, 2)), (switch(1), ok(3, 3)), (EVENT_WAIT(3), ok(0, 3)), (EXIT, ok(0, 3)),
+       (switch(2), ok(4, 4)), (EVENT_WAIT(3), ok(0, 4)), (EXIT, ok(0, 4)), (switch(3), ok(5, 5)),
+       (REAP(4), ok(0x20c0, 5),
+        table([UNTOUCHED, "1,1,3,128,7,5,5,0,-,8192,64,8252,0", "2,2,4,128,0,5,5,0,-,8256,64,8316,0", "3,3,5,128,0,5,0,0,-,8320,64,8380,0",
+               "5,5,1,128,0,5,5,0,-,8448,64,8512,0"], "0,1,5,5,6", events="0,[]; 0,[]; 0,[]; 0,[1 2 3 4];")),
+       (SIGNAL(3), ok(0, 5),
+        table([UNTOUCHED, "1,1,3,128,7,5,5,0,-,8192,64,8252,0", "2,2,4,128,0,5,5,0,-,8256,64,8316,0", "3,3,5,128,0,5,0,0,-,8320,64,8380,0",
+               "5,5,1,128,0,5,5,0,-,8448,64,8512,0"], "0,1,5,5,6", events="0,[]; 0,[]; 0,[]; 1,[];")))
+
+tables("eight-dropped-by-a-release",
+       "Seven up and the eighth Blocked: woken; all eight up: none, the queue is empty and the count up (02, W-201; 05, 6, 9)",
+       *eight_dropped(ACQUIRE, RELEASE, {"semaphores": "0,[1 2 3 4 5 6 7 8]; 1,[]; 0,[]; 0,[];"}, {"semaphores": "1,[]; 1,[]; 0,[]; 0,[];"}),
+       (TRY_ACQUIRE(0), ok(1, 9)), (TRY_ACQUIRE(0), ok(0, 9)), (TRY_ACQUIRE(1), ok(1, 9)))
+
+tables("eight-dropped-by-a-signal",
+       "The same with signal: no flag where the eighth was woken, the flag where none was (02, W-201; 05, 7, 9)",
+       *eight_dropped(EVENT_WAIT, SIGNAL, {"events": "0,[1 2 3 4 5 6 7 8]; 0,[]; 0,[]; 0,[];"}, {"events": "1,[]; 0,[]; 0,[]; 0,[];"}),
+       (EVENT_WAIT(0), ok(1, 9)), (EVENT_WAIT(1), ok(0, 9)))
 
 # Current id and result
 
@@ -326,28 +457,40 @@ def played(program, lines):
     return [text.rstrip("\n") for text in out]
 
 
+def compared(program, lines):
+    """How many calls there are before the first that drops a head which is not Blocked."""
+    machine = model.Machine(program == "tables")
+    for at, call in enumerate(lines):
+        machine.step(call.encode())
+        if any(state != model.BLOCKED for state in machine.kernel.dropped):
+            return at
+    return len(lines)
+
+
 def in_domain(call, answer):
     """01's compared domain has no number but 0, 4, 8, 9 and wait's 7."""
     return answer[:2] in ("00", "04", "08", "09") or answer[:2] == "07" and call[:2] == "06"
 
 
 def replayed(calls, last=None):
-    """What the reference prints for calls of the domain; with a last line outside it, the number that it gives."""
+    """What the reference prints for calls of the domain; with a last line outside it, the number that it gives, or W-201."""
     given = "".join(call + "\n" for call in calls + ([] if last is None else [last]))
     done = subprocess.run([REFERENCE, "replay"], input=given, capture_output=True, text=True)
     assert done.returncode == (0 if last is None else 3), done.stderr
-    return done.stdout.splitlines() if last is None else done.stderr.rpartition("number ")[2][:2]
+    return done.stdout.splitlines() if last is None else done.stderr.rpartition("(")[2].partition(")")[0].split()[-1]
 
 
 def check(program, name, calls):
     """Holds the case to the model and the reference; gives what is printed."""
     lines, printed = [call[0] for call in calls], played(program, [call[0] for call in calls])
     answers = printed[::2] if program == "tables" else printed
-    asked, mine = [], []
+    end, asked, mine = compared(program, lines), [], []
     for at, (call, answer, *after) in enumerate(calls):
         assert answers[at] == answer, (name, at, call, answers[at], answer)
         assert not after or printed[2 * at + 1] == after[0], (name, at, call, printed[2 * at + 1], after[0])
-        if in_domain(call, answer):
+        if at >= end:
+            assert at > end or replayed(asked, call) == "W-201", (name, at, call)
+        elif in_domain(call, answer):
             asked.append(call)
         elif program == "tables" or call[:2] not in ("1b", "1c", "1d", "1e", "1f"):     # the reference has them
             number = replayed(asked, call)

@@ -1,15 +1,19 @@
 #!/usr/bin/env python3
-"""Random lists for `turns` or `tables` that meet every refusal that a list from fresh can meet there, with malformed lines.
+"""Random lists for `turns` or `tables` that meet every refusal that a list from fresh can meet there, with malformed lines; and
+lists in which release or signal drops up to eight heads.
 
   frames.py SEED LINES MALFORMED LISTS turns|tables PROGRAM [ARG..]
-        LISTS lists of LINES lines, from SEED on, MALFORMED of them malformed (0.03 is 3 in 100); runs PROGRAM on each and
-        compares with model.py, byte for byte"""
+        LISTS lists of LINES lines, from SEED on, MALFORMED of them malformed (0.03 is 3 in 100), and ten times as many of
+        the other kind; runs PROGRAM on each and compares with model.py, byte for byte"""
 import random
 import sys
 
 sys.dont_write_bytecode = True
 import against
 import model
+
+# What queues current, and what drops heads of that queue.
+DROPS = {0xa: 0xb, 0xd: 0xf, 0x10: 0x11}
 
 
 def malformed():
@@ -44,6 +48,8 @@ def operation():
             return rng.choice([0x1b, 0x1b, 0x1c, 0x1d, 0x1e, 0x1e])
     if mood == "crowd":
         return rng.choice([4, 4, 4, what, what, what, 9, 3, 1])
+    if mood == "heads":
+        return rng.choice([4] * 6 + [what] * 6 + [9] * 3 + [5, 8, 0x12, 7, 1, 3, DROPS[what]])
     if mood == "life":
         return rng.choice([1, 1, 3, 4, 4, 4, 5, 5, 6, 6, 7, 7, 9, 0x14, 0x12])
     if mood == "mutex":
@@ -90,7 +96,7 @@ def frame():
     elif op == 8:
         y = rng.choice([0, 1, 1, 2, 3, 10, 0xffffffff])
     elif 0xa <= op <= 0x11:
-        a = 0 if mood == "crowd" else rng.choice([0, 0, 0, 1, 2, 3])
+        a = 0 if mood in ("crowd", "heads") else rng.choice([0, 0, 0, 1, 2, 3])
         if rng.random() < .02:
             a = rng.choice([4, 5, 128, 255])
     elif op == 0x12:
@@ -110,8 +116,8 @@ def make(seed, lines, share, tables):
     rng, machine, mood, what, out = random.Random(seed), model.Machine(tables), "any", 0xd, []
     for n in range(lines):
         if rng.random() < .02:
-            mood = rng.choice(["any", "any", "crowd", "life", "mutex"] + ["words"] * tables)
-            what = rng.choice([0xa, 0xd, 0x10])
+            mood = rng.choice(["any", "any", "crowd", "heads", "life", "mutex"] + ["words"] * tables)
+            what = rng.choice([*DROPS])
         if rng.random() < share:
             line = malformed()
         elif not machine.kernel.started and n > 10 and rng.random() < .2:
@@ -123,8 +129,59 @@ def make(seed, lines, share, tables):
     return b"\n".join(out) + (b"\n" if rng.random() < .5 else b"")
 
 
+def queues(seed):
+    """A list, as bytes: up to eight tasks queue at a semaphore or an event, each is then in some state or gone, and releases or
+    signals drop them."""
+    rng, machine, out = random.Random(seed), model.Machine(False), []
+
+    def call(op, k=0, y=0):
+        out.append(f"{op:02x}{k:02x}{y:08x}".encode())
+        machine.step(out[-1])
+
+    def switch():
+        call(4, 0, machine.kernel.own().start)
+
+    queue, take = rng.choice([(0xd, 0xe), (0x10, 0x10)])
+    k, heads, others = rng.randrange(4), rng.randrange(9), [state for state in range(7) if state != model.BLOCKED]
+    # The first ones are not Blocked; behind them one that is, and any.
+    fates = [rng.choice(others) for _ in range(heads)]
+    fates += [rng.choice([model.BLOCKED, *others]) if at else model.BLOCKED for at in range(rng.randrange(9 - heads))]
+    ids = lambda state: [id for id, fate in enumerate(fates, 1) if fate == state]
+    for at in range(len(fates)):
+        call(1, 8, (8192 + 16 * at) << 16 | 16)
+    call(2)
+    for fate in fates:
+        call(queue, k)
+        if fate == model.SLEEPING:
+            call(8, 0, 1000)
+        elif fate == model.SUSPENDED:
+            call(0x12, model.SUSPENDED)
+        elif fate in (model.TERMINATED, model.EMPTY):
+            call(5)
+        switch()
+    # Idle is current, and none is Ready.
+    for id in ids(model.EMPTY):
+        call(7, 0, id)
+    for id in ids(model.RUNNING)[:1]:
+        call(9, 0, id)
+        switch()
+    for id in ids(model.READY) + ids(model.RUNNING)[1:]:
+        call(9, 0, id)
+    for _ in range(rng.randrange(1, 10)):
+        call(DROPS[queue], k)
+        if rng.random() < .3:
+            call(take, k)
+    for _ in fates:
+        switch()
+        call(*rng.choice([(queue, k), (0x13,)]))
+        call(DROPS[queue], k)
+    return b"\n".join(out)
+
+
 if __name__ == "__main__":
     if len(sys.argv) < 7 or sys.argv[5] not in ("turns", "tables"):
         sys.exit(__doc__)
     first, lines, share, lists = int(sys.argv[1]), int(sys.argv[2]), float(sys.argv[3]), int(sys.argv[4])
-    against.compare([make(seed, lines, share, sys.argv[5] == "tables") for seed in range(first, first + lists)], sys.argv[5], sys.argv[6:])
+    made = [make(seed, lines, share, sys.argv[5] == "tables") for seed in range(first, first + lists)]
+    made += [queues(seed) for seed in range(first, first + 10 * lists)]
+    against.compare(made, sys.argv[5], sys.argv[6:])

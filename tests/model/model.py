@@ -1,10 +1,11 @@
 #!/usr/bin/env python3
-"""A model of document 01's step, following the words of documents 01, 03 and 04. Its author had read the published Rust too.
+"""A model of document 01's step with document 02's W-201, following the words of documents 01 to 05. Its author had read the
+published Rust too.
 
   model.py turns    standard input as `turns` reads it; prints what `turns` prints
   model.py tables   the same for `tables`, which has operations of its own: after each answer the table
   model.py replay   lists of `tables` parted by `new`; prints as the reference does: tables without charges, the values
-                    of release and signal as 0
+                    of wake, release and signal as 0
 
 Every refusal that a list from fresh can meet is there, and those that only other kernels can meet (6, 15, 18, 19) too."""
 import sys
@@ -97,6 +98,7 @@ class Kernel:
         self.mutexes = [Mutex() for _ in range(OBJECTS)]
         self.semaphores = [Semaphore() for _ in range(OBJECTS)]
         self.events = [Event() for _ in range(OBJECTS)]
+        self.dropped, self.left = [], 0     # for tests: the states of the heads that release or signal dropped, how many ids stay
         arena[0:2048] = [PAINT] * 2048
 
     # Help
@@ -119,9 +121,23 @@ class Kernel:
         self.own().state = BLOCKED
 
     def wake_id(self, id):
+        """Whether it turned a Blocked task Ready."""
         at = self.find(id)
-        if at is not None and self.slots[at].state == BLOCKED:
-            self.slots[at].state = READY
+        if at is None or self.slots[at].state != BLOCKED:
+            return False
+        self.slots[at].state = READY
+        return True
+
+    def wake_head(self, queue):
+        """Drops heads until one was woken or the queue is empty. Whether one was woken."""
+        while queue:
+            id = queue.pop(0)
+            at = self.find(id)
+            self.dropped.append(EMPTY if at is None else self.slots[at].state)
+            self.left = len(queue)
+            if self.wake_id(id):
+                return True
+        return False
 
     def would_overflow(self, queue):
         return len(queue) == PLACES and self.own().id not in queue
@@ -231,8 +247,7 @@ class Kernel:
         return self.sleep_ticks(ms_to_ticks(self.hz, ms))
 
     def wake(self, id):
-        self.wake_id(id)
-        return 0, 0
+        return 0, int(self.wake_id(id))
 
     def exit(self):
         if not self.started:
@@ -384,10 +399,7 @@ class Kernel:
         if semaphore.count == U32:
             return 19, 0
         semaphore.count += 1
-        if semaphore.queue:
-            self.wake_id(semaphore.queue.pop(0))
-            return 0, 1
-        return 0, 0
+        return 0, int(self.wake_head(semaphore.queue))
 
     def event_wait(self, k):
         if k > 3:
@@ -407,11 +419,10 @@ class Kernel:
         if k > 3:
             return 20, 0
         event = self.events[k]
-        if event.queue:
-            self.wake_id(event.queue.pop(0))
-            return 0, 1
-        event.signalled = True
-        return 0, 0
+        woken = self.wake_head(event.queue)
+        if not woken:
+            event.signalled = True
+        return 0, int(woken)
 
     def list(self, arena, records):
         """Writes (id, state, priority, used, total) into a lent list."""
@@ -525,8 +536,9 @@ class Machine:
 
     def step(self, line):
         """(operation, number, value) of a line, its line feed off; no operation where it is not 12 digits. What is
-        appended to the answer is in self.appended."""
+        appended to the answer is in self.appended, and what a release or signal dropped in self.kernel.dropped."""
         self.appended = ""
+        self.kernel.dropped = []
         if len(line) != 12 or not DIGITS.issuperset(line):
             return None, 0xFF, 0
         op, k, y = int(line[0:2], 16), int(line[2:4], 16), int(line[4:12], 16)
@@ -551,17 +563,20 @@ def lines_of(data):
 
 
 def run(data, tables, out):
-    """Appends what `turns` or `tables` prints, line by line, and gives the pairs of operation and number that were met."""
-    machine, table, met = Machine(tables), None, set()
+    """Appends what `turns` or `tables` prints, line by line. Gives the pairs of operation and number that were met, and of each
+    release and signal that dropped heads the operation, their states (EMPTY for one that is gone) and how many ids stay queued."""
+    machine, table, met, drops = Machine(tables), None, set(), set()
     for line in lines_of(data):
         op, number, value = machine.step(line)
         met.add((op, number))
+        if machine.kernel.dropped:
+            drops.add((op, tuple(machine.kernel.dropped), machine.kernel.left))
         out.append(machine.answer(number, value))
         if tables:
             if number == 0 or table is None:    # a refusal alters nothing
                 table = machine.kernel.table() + "\n"
             out.append(table)
-    return met
+    return met, drops
 
 
 def replay(data, out):
@@ -572,7 +587,7 @@ def replay(data, out):
             out.append("new\n")
             continue
         op, number, value = machine.step(line)
-        out.append(machine.answer(number, 0 if op in (0x0F, 0x11) else value))
+        out.append(machine.answer(number, 0 if op in (0x09, 0x0F, 0x11) else value))
         out.append(machine.kernel.table(charges=False) + "\n")
 
 

@@ -36,7 +36,7 @@ fn printed(program: &[&str], list: &[u8]) -> std::io::Result<(Vec<u8>, bool)> {
 /// An answer, the value left out where the Rust returns nothing.
 fn answer(line: &[u8], op: u8) -> Vec<u8> {
     let mut line = line.to_vec();
-    if matches!(op, RELEASE | SIGNAL) && line.len() == 12 {
+    if matches!(op, WAKE | RELEASE | SIGNAL) && line.len() == 12 {
         line[2..10].fill(b'.');
     }
     line
@@ -99,7 +99,7 @@ pub fn run(program: &[&str]) -> ExitCode {
         init(HZ);
         let mut asked = Vec::new();
         for line in list {
-            match parse(line).filter(|&asked| refusal(asked) == 0) {
+            match parse(line).filter(|&asked| in_domain(asked)) {
                 Some(one) => {
                     call(one);
                     asked.push(one);

@@ -216,13 +216,20 @@ impl Coverage {
                     before.mutexes[at].handoff_to == Some(own.id));
             }
             RELEASE | SIGNAL => {
-                let next = head.map(find);
-                case("release or signal, no waiter", next.is_none());
-                case("release or signal wakes",
+                // A head is Blocked in the domain.
+                let ids = queues.map_or(Vec::new(), |(queue, _)| queue.ids().to_vec());
+                let next = ids.get(1).copied().map(find);
+                case("release or signal, no waiter", head.is_none());
+                case("release or signal wakes", head.is_some());
+                case("release or signal wakes one of eight", length == WAITERS);
+                case("release or signal wakes, the next one Blocked too",
                     matches!(next, Some(Some(slot)) if slot.state == 2));
-                case("release or signal lost on a task not Blocked",
+                case("release or signal wakes, the next one not Blocked",
                     matches!(next, Some(Some(slot)) if slot.state != 2));
-                case("release or signal lost on a task that is gone", matches!(next, Some(None)));
+                case("release or signal wakes, the next one gone", matches!(next, Some(None)));
+                case("release wakes, with permits left",
+                    call.op == RELEASE && head.is_some() && before.semaphores[at].0 > 0);
+                case("signal, signalled already", call.op == SIGNAL && before.events[at].0);
             }
             ACQUIRE | EVENT_WAIT => {
                 case("acquire or event wait, yes", value == 1);
@@ -370,7 +377,7 @@ pub fn of_input() -> ExitCode {
             coverage.new_list();
             return;
         }
-        match parse(line).filter(|&asked| refusal(asked) == 0) {
+        match parse(line).filter(|&asked| in_domain(asked)) {
             Some(asked) => {
                 let before = tables();
                 let answer = call(asked);

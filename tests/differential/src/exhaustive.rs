@@ -178,7 +178,7 @@ pub fn run(depth: usize, name: &str) -> ExitCode {
         let mut fault = depth;
         let letters = before.iter().chain(digits.iter().map(|&digit| &alphabet[digit]));
         for (at, letter) in letters.enumerate() {
-            match letter.call().filter(|&asked| refusal(asked) == 0) {
+            match letter.call().filter(|&asked| in_domain(asked)) {
                 Some(asked) => {
                     call(asked);
                     put_call(&mut out, asked);

@@ -148,6 +148,21 @@ fn id(random: &mut Random, tables: &Tables, wanted: impl Fn(usize, &Slot) -> boo
     }
 }
 
+/// A semaphore or an event: of the first ones of the plan's number, but for
+/// those whose head is gone, since no release or signal can follow there.
+fn object(random: &mut Random, plan: &Plan, tables: &Tables, op: u8) -> u8 {
+    let gone = |at: usize| {
+        let queue = match op {
+            EVENT_WAIT | SIGNAL => tables.events[at].1,
+            _ => tables.semaphores[at].1,
+        };
+        queue.ids().first().is_some_and(|&id| tables.slots.iter().flatten().all(|slot| slot.id != id))
+    };
+    let open: Vec<usize> = (0..OBJECTS).filter(|&at| !gone(at)).take(plan.objects).collect();
+
+    random.of_any(&open).filter(|_| random.percent(90)).unwrap_or(random.below(plan.objects)) as u8
+}
+
 /// A call of that operation, with operands that suit the tables. It may yet be
 /// outside the domain.
 fn operands(random: &mut Random, plan: &Plan, tables: &Tables, op: u8) -> Option<Call> {
@@ -220,7 +235,7 @@ fn operands(random: &mut Random, plan: &Plan, tables: &Tables, op: u8) -> Option
                 .filter(|_| random.percent(60))
                 .unwrap_or(random.below(plan.objects) as u8);
         }
-        ACQUIRE..=SIGNAL => k = random.below(plan.objects) as u8,
+        ACQUIRE..=SIGNAL => k = object(random, plan, tables, op),
         LIST => {
             let most = tables.task_count as u8;
             k = random.of(&[most, most, most + 1, SLOTS as u8, 255]).max(most);
@@ -302,7 +317,7 @@ fn choose(
         _ => plan.fresh,
     };
     if random.below(1000) < another {
-        if let Some(call) = operands(random, plan, tables, FRESH).filter(|&call| refusal(call) == 0) {
+        if let Some(call) = operands(random, plan, tables, FRESH).filter(|&call| in_domain(call)) {
             return call;
         }
     }
@@ -363,7 +378,7 @@ fn choose(
         if let Some(y) = guard.into_iter().find(|&word| op == SWITCH && !painted(word as usize)) {
             return Call { op: WORD, k: 1, y };
         }
-        if let Some(call) = operands(random, plan, tables, op).filter(|&call| refusal(call) == 0) {
+        if let Some(call) = operands(random, plan, tables, op).filter(|&call| in_domain(call)) {
             return call;
         }
     }

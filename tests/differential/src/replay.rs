@@ -6,8 +6,8 @@ use std::panic;
 use std::process::{ExitCode, exit};
 
 use kernel::interface::{
-    Call, FRESH, LIST, SLOTS, call, current, empty, fresh_in, init, possible, records, refusal,
-    renew, set_current, tables, words,
+    Call, FRESH, LIST, SLOTS, call, current, empty, fresh_in, in_domain, init, possible, records,
+    refusal, renew, set_current, tables, words,
 };
 
 use crate::notation::{parse, put_answer, put_records, put_tables};
@@ -45,10 +45,15 @@ fn end(out: &mut Vec<u8>, code: i32) -> ! {
     exit(code);
 }
 
-/// Says that a line is outside the domain, and stops.
+/// Says that a line is outside the domain, and stops. What 01 does not refuse
+/// is outside for W-201.
 fn leave(out: &mut Vec<u8>, line: &[u8], number: u8) -> ! {
+    let why = match number {
+        0 => "document 02's W-201".to_string(),
+        _ => format!("document 01's number {number:02x}"),
+    };
     eprintln!(
-        "reference: {} is outside the compared domain (document 01's number {number:02x})",
+        "reference: {} is outside the compared domain ({why})",
         String::from_utf8_lossy(line)
     );
     out.extend_from_slice(b"outside\n");
@@ -67,9 +72,8 @@ fn step(out: &mut Vec<u8>, line: &[u8], with_tables: bool, raw: bool) {
     let Some(asked) = parse(line) else {
         leave(out, line, 0xff);
     };
-    let refused = refusal(asked);
-    if refused != 0 && !(raw && possible(asked)) {
-        leave(out, line, refused);
+    if !in_domain(asked) && !(raw && possible(asked)) {
+        leave(out, line, refusal(asked));
     }
 
     let answer = call(asked);
@@ -102,7 +106,7 @@ fn step_aside(out: &mut Vec<u8>, line: &[u8]) -> bool {
 
 /// The hz of a line that asks for a fresh kernel and gets one.
 fn fresh_of(line: &[u8]) -> Option<u32> {
-    parse(line).filter(|&asked| asked.op == FRESH && refusal(asked) == 0).map(|asked| asked.y)
+    parse(line).filter(|&asked| asked.op == FRESH && in_domain(asked)).map(|asked| asked.y)
 }
 
 /// What of a list one kernel plays, in a process of its own: the statics are

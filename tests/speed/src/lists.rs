@@ -15,11 +15,15 @@ const SIZE: u32 = 64;
 
 pub type List = fn(tasks: usize) -> Vec<u8>;
 
-pub const LISTS: [(&str, List); 6] = [
+pub const LISTS: [(&str, List); 10] = [
     ("tick", tick),
     ("switch", switch),
     ("lock and unlock, contended", contended),
     ("sleep and wake", sleep_wake),
+    ("release, nobody waits", release),
+    ("release, one waits", release_one),
+    ("signal, nobody waits", signal),
+    ("signal, one waits", signal_one),
     ("mixed", mixed),
     ("no call", no_call),
 ];
@@ -50,7 +54,7 @@ impl Made {
 
     fn call(&mut self, op: u8, k: u8, y: u32) -> u32 {
         let asked = Call { op, k, y };
-        assert_eq!(refusal(asked), 0, "operation {op:02x} is outside the domain");
+        assert!(in_domain(asked), "operation {op:02x} is outside the domain");
         put_call(&mut self.list, asked);
         self.calls += 1;
         call(asked).1
@@ -153,6 +157,55 @@ fn sleep_wake(tasks: usize) -> Vec<u8> {
     made.list
 }
 
+/// The task in the last slot is current, and the others are Ready.
+fn last_current(tasks: usize) -> Made {
+    let mut priorities = vec![128; tasks - 1];
+    priorities[tasks - 2] = 100;
+    let made = Made::started(&priorities);
+    assert_eq!(current() as usize, tasks - 1, "the better one runs");
+    made
+}
+
+/// Releases alone: the count rises.
+fn release(tasks: usize) -> Vec<u8> {
+    let mut made = last_current(tasks);
+    while made.more() {
+        made.call(RELEASE, 0, 0);
+    }
+    made.list
+}
+
+/// Current blocks at the semaphore, is woken by its own release and takes the
+/// permit.
+fn release_one(tasks: usize) -> Vec<u8> {
+    let mut made = last_current(tasks);
+    while made.more() {
+        assert_eq!(made.call(ACQUIRE, 0, 0), 0, "no permit");
+        made.call(RELEASE, 0, 0);
+        assert_eq!(made.call(TRY_ACQUIRE, 0, 0), 1, "a permit");
+    }
+    made.list
+}
+
+/// Signals alone: the flag is set from the first on.
+fn signal(tasks: usize) -> Vec<u8> {
+    let mut made = last_current(tasks);
+    while made.more() {
+        made.call(SIGNAL, 0, 0);
+    }
+    made.list
+}
+
+/// Current blocks at the event and is woken by its own signal.
+fn signal_one(tasks: usize) -> Vec<u8> {
+    let mut made = last_current(tasks);
+    while made.more() {
+        assert_eq!(made.call(EVENT_WAIT, 0, 0), 0, "no flag");
+        made.call(SIGNAL, 0, 0);
+    }
+    made.list
+}
+
 struct Random(u64);
 
 impl Random {
@@ -244,6 +297,10 @@ fn mixed(tasks: usize) -> Vec<u8> {
         let owned = (0..OBJECTS).find(|&at| seen.mutexes[at].owner == Some(own.id));
         let handed = (0..OBJECTS).find(|&at| seen.mutexes[at].handoff_to == Some(own.id));
         let queued = seen.mutexes.iter().any(|mutex| mutex.queue.ids().contains(&own.id));
+        let waits = |id: u32| {
+            seen.semaphores.iter().any(|(_, queue)| queue.ids().contains(&id))
+                || seen.events.iter().any(|(_, queue)| queue.ids().contains(&id))
+        };
         let op = match op {
             EXIT | WAIT | SLEEP | LOCK | TRY_LOCK | ACQUIRE | EVENT_WAIT | STATUS | BLOCK
                 if last && seen.current == tasks - 1 =>
@@ -253,14 +310,27 @@ fn mixed(tasks: usize) -> Vec<u8> {
             EXIT if owned.is_some() => UNLOCK,
             // A mutex would be handed to a task that is gone, and stay locked.
             EXIT if queued => TICK,
+            // No release or signal of the domain meets a head that is not Blocked.
+            // Idle runs though it is queued, where none is Ready.
+            ACQUIRE | EVENT_WAIT if seen.current == 0 => TRY_ACQUIRE,
+            EXIT | SLEEP | STATUS if waits(own.id) => match own.state {
+                BLOCKED => [RELEASE, SIGNAL][random.below(2)],
+                _ => BLOCK,
+            },
             // One mutex at a time, so that no two tasks wait for each other.
             LOCK | TRY_LOCK if owned.is_some() && handed.is_none() => UNLOCK,
             LOCK | TRY_LOCK if queued && handed.is_none() => TICK,
             op => op,
         };
         let other = present[random.below(present.len())].id;
-        let blocked: Vec<u32> =
-            present.iter().filter(|slot| slot.state == BLOCKED).map(|slot| slot.id).collect();
+        let blocked: Vec<u32> = present
+            .iter()
+            .filter(|slot| slot.state == BLOCKED && !waits(slot.id))
+            .map(|slot| slot.id)
+            .collect();
+        // One that nobody waits for, or whose head is Blocked.
+        let fit: Vec<u8> =
+            (0..OBJECTS as u8).filter(|&k| in_domain(Call { op, k, y: 0 })).collect();
         let (k, y) = match op {
             SWITCH => (0, own.start + own.size - 16),
             WAIT => (0, other),
@@ -271,10 +341,11 @@ fn mixed(tasks: usize) -> Vec<u8> {
             STATUS => ([0, 2, 3][random.below(3)], 0),
             LOCK => (handed.unwrap_or_else(|| random.below(OBJECTS)) as u8, 0),
             UNLOCK => (owned.unwrap_or(0) as u8, 0),
+            RELEASE | SIGNAL if !fit.is_empty() => (fit[random.below(fit.len())], 0),
             TRY_LOCK..=SIGNAL => (random.below(OBJECTS) as u8, 0),
             _ => (0, 0),
         };
-        if refusal(Call { op, k, y }) == 0 {
+        if in_domain(Call { op, k, y }) {
             let answer = made.call(op, k, y);
             wanted = wanted || (op == TICK && answer == 1);
         }

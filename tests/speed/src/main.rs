@@ -13,7 +13,7 @@ use std::hint::black_box;
 use std::io::{Read, Write};
 use std::process::ExitCode;
 
-use kernel::interface::{RELEASE, SIGNAL, call, current, init, renew};
+use kernel::interface::{RELEASE, SIGNAL, WAKE, call, current, init, renew};
 
 use lists::LISTS;
 use notation::{parse, put_answer};
@@ -63,10 +63,11 @@ fn play_rattle(list: &[u8], out: &mut [u8]) -> usize {
     unsafe { play_list(list.as_ptr(), list.len(), out.as_mut_ptr(), out.len()) }
 }
 
-/// Whether the answers are equal byte for byte. The values of release and
+/// Whether the answers are equal byte for byte. The values of wake, release and
 /// signal are passed over, for the Rust returns none.
 fn agree(list: &[u8], rattle: &[u8], rust: &[u8]) -> bool {
-    let no_value = |line: &[u8]| parse(line).is_some_and(|call| matches!(call.op, RELEASE | SIGNAL));
+    let no_value =
+        |line: &[u8]| parse(line).is_some_and(|call| matches!(call.op, WAKE | RELEASE | SIGNAL));
     let lines = list.split(|&byte| byte == b'\n');
     rattle.len() == rust.len()
         && lines.zip(rattle.chunks(13).zip(rust.chunks(13))).all(|(line, (a, b))| {

@@ -168,9 +168,31 @@ impl Call {
     }
 }
 
+/// Whether the call is in the compared domain. A word altered between two
+/// calls is.
+pub fn in_domain(call: Call) -> bool {
+    refusal(call) == 0 && !past_its_head(call)
+}
+
+/// A release or signal whose head is not Blocked. The Rust drops that head and
+/// no other; there document 02's W-201 is the yardstick.
+fn past_its_head(call: Call) -> bool {
+    let head = match call.op {
+        RELEASE => SEMAPHORES[call.k as usize].see().1.first(),
+        SIGNAL => EVENTS[call.k as usize].see().1.first(),
+        _ => None,
+    };
+    let blocked = |id: &TaskId| {
+        let mut tasks = Door::see().tasks.iter().flatten();
+        tasks.any(|task| task.id == *id && task.state == TaskState::Blocked)
+    };
+
+    head.is_some_and(|id| !blocked(id))
+}
+
 /// The number with which document 01 refuses the call where the Rust would
-/// panic or has no such refusal; 0xff for a line that is none; 0 for a call
-/// in the compared domain, and for a word altered between two calls.
+/// panic or has no such refusal; 0xff for a line that is none; 0 for every
+/// other call, and for a word altered between two calls.
 pub fn refusal(call: Call) -> u8 {
     let Call { op, k, y } = call;
 
@@ -294,7 +316,8 @@ pub fn possible(call: Call) -> bool {
 /// Makes the call, whether or not it is in the domain, and gives number and
 /// value as `tables` prints them. Outside the domain the Rust may panic; a
 /// refused call that is not `possible` must not be made.
-/// Release and signal give the value 0, for the Rust returns nothing there.
+/// Wake, release and signal give the value 0, for the Rust returns nothing
+/// there.
 pub fn call(call: Call) -> (u8, u32) {
     let Call { op, k, y } = call;
     let id = TaskId::from_raw(y as usize);
