@@ -9,12 +9,12 @@ sys.dont_write_bytecode = True
 import model
 
 
-def compare(lists, mode, program):
-    """Stops with status 1 at the first list on which they differ."""
+def compare(lists, mode, program, tick=0):
+    """Stops with status 1 at the first list on which they differ. A fresh kernel begins at that tick."""
     calls = 0
     for data in lists:
         want, given = [], model.lines_of(data)
-        model.run(data, mode == "tables", want)
+        model.run(data, mode == "tables", want, tick)
         got = subprocess.run(program, input=data, capture_output=True)
         if got.stdout != "".join(want).encode() or got.returncode != 0:
             lines = got.stdout.decode(errors="replace").splitlines(True)

@@ -1,9 +1,10 @@
-"""The cases of tests/cases: lists from fresh with answers worked out by hand from documents 01, 02 and 04. Each is held against
+"""The cases of tests/cases: lists from fresh with answers worked out by hand from documents 01, 02, 04 and 05. Each is held against
 the model and, where a call is in the compared domain, against the Rust; of other lines the reference has to say 01's number. At
-a release or signal that drops a head which is not Blocked it has to say W-201; from there on the list is held to the model alone.
+a release or signal that drops a head which is not Blocked it has to say W-201, at a wait with a limit W-202; from there on the list is
+held to the model alone. So are the lists of `late`, since no list brings the Rust to that tick.
 
   cases.py [DIR]    with DIR, also writes each list and what is printed for it: DIR/NAME.in and DIR/NAME.out for `turns`,
-                    DIR/tables/NAME.in and DIR/tables/NAME.out for `tables`
+                    DIR/tables/NAME.in and DIR/tables/NAME.out for `tables`, DIR/late likewise
   REFERENCE         the program that tests/differential/build makes; default target/differential/reference"""
 import os
 import subprocess
@@ -27,6 +28,11 @@ def tables(name, shows, *calls):
     CASES.append(("tables", name, shows, calls))
 
 
+def late(name, shows, *calls):
+    """The same for a `tables` in which a fresh kernel begins at tick model.LATE, 12 before 2^64 - 1."""
+    CASES.append(("late", name, shows, calls))
+
+
 # Calls. Regions of one size lie one after the other behind idle's, counted from 0; sp is a region's last word.
 def line(op, k=0, y=0): return f"{op:02x}{k:02x}{y:08x}"
 def add(region, priority, size=64): return line(0x01, priority, (8192 + size * region) << 16 | size)
@@ -37,6 +43,7 @@ IDLE = line(0x04, 0, 8188)
 START, TICK, EXIT, BLOCK, REAP_ONE, CURRENT_ID = (line(op) for op in (0x02, 0x03, 0x05, 0x13, 0x14, 0x1c))
 WAIT, REAP, SLEEP, WAKE = ((lambda y, op=op: line(op, 0, y)) for op in (0x06, 0x07, 0x08, 0x09))
 LOCK, UNLOCK, TRY_LOCK, ACQUIRE, TRY_ACQUIRE, RELEASE, EVENT_WAIT, SIGNAL = ((lambda k, op=op: line(op, k)) for op in range(0x0a, 0x12))
+ACQUIRE_WITHIN, WAIT_WITHIN = ((lambda k, ticks, op=op: line(op, k, ticks)) for op in (0x15, 0x16))
 def status(k): return line(0x12, k)
 def result(id, k): return line(0x1d, k, id)
 def fresh(hz): return line(0x1f, 0, hz)
@@ -54,10 +61,32 @@ def added(*priorities, size=64):
 
 
 def table(slots, scheduler, mutexes=" ".join(["0,-,-,[];"] * 4), semaphores=" ".join(["0,[];"] * 4), events=" ".join(["0,[];"] * 4),
-          charges="0"):
-    """The line of `tables`; charges of the first slots, the others being 0."""
+          charges="0", limits={}):
+    """The line of `tables`; charges of the first slots, the others being 0; limits of those slots that have or had one."""
     charges = charges.split(",")
-    return " | ".join([";".join(slots), scheduler, mutexes, semaphores, events, ",".join(charges + ["0"] * (16 - len(charges)))])
+    limits = ";".join(f"{slot},{limits.get(int(slot), '-,-,-,0')}" for slot in (text.partition(",")[0] for text in slots))
+    return " | ".join([";".join(slots), scheduler, mutexes, semaphores, events, ",".join(charges + ["0"] * (16 - len(charges))), limits])
+
+
+READY, RUNNING, BLOCKED, SLEEPING, SUSPENDED, TERMINATED = range(6)
+
+
+def task(slot, state, left=True, id=None, wake=0, rest=5, owned=0, waiter="-"):
+    """A slot at 128 whose region is that of its number; left: its sp was stored by a switch."""
+    end = 8192 + 64 * slot
+    return f"{slot},{id or slot},{state},128,{wake},5,{rest},{owned},{waiter},{end - 64},64,{end - 4 if left else end},0"
+
+
+def idle(state, left=True):
+    return f"0,0,{state},255,0,1,1,0,-,0,8192,{8188 if left else 8192},0"
+
+
+def objects(**some):
+    """Semaphores or events, by number as o0 to o3; the others as fresh makes them."""
+    return " ".join(some.get(f"o{k}", "0,[]") + ";" for k in range(4))
+
+
+def mutexes(first): return first + "; 0,-,-,[]; 0,-,-,[]; 0,-,-,[];"
 
 
 def eight_queued(call):
@@ -274,21 +303,26 @@ turns("no-call", "ff: any other length or byte, an unknown operation, an unused 
       (START, ok(0, 0)), ("0A0000000000", no(255, 0)), ("0a0000000000", ok(1, 0)))
 
 turns("no-call-of-tables", "The operations that `tables` alone has are ff (04, first paragraph)",
-      *[(call, no(255, 0)) for call in (records(1), CURRENT_ID, result(0, 1), word(0, 0), fresh(1000))], *added(128), (START, ok(1, 1)),
-      *[(call, no(255, 1)) for call in (records(2), CURRENT_ID, result(1, 255), word(2048, 0), fresh(1))], (switch(0), ok(1, 1)))
+      *[(call, no(255, 0)) for call in (records(1), CURRENT_ID, result(0, 1), word(0, 0), fresh(1000), ACQUIRE_WITHIN(0, 5), WAIT_WITHIN(0, 5))],
+      *added(128), (START, ok(1, 1)),
+      *[(call, no(255, 1)) for call in (records(2), CURRENT_ID, result(1, 255), word(2048, 0), fresh(1), *[
+          line(op, k, y) for op in (0x15, 0x16) for k, y in ((0, 5), (0, 0), (4, 0), (3, NONE))])],
+      (TICK, ok(0, 1)), (switch(0), ok(1, 1)))
 
 # The notation of `tables`
 
 tables("example", "Document 04's example as far as its operations are there; the others are ff (04, lines)",
        ("018020000400", "000000000100"), ("1c0000000000", "020000000000"), ("020000000000", "000000000101"),
        ("030000000000", "000000000001"),
-       *[(call, no(255, 1)) for call in ("170000000001", "190200000000", "150000000005", "1a0200000000", "1a0300000000")])
+       *[(call, no(255, 1)) for call in ("170000000001", "190200000000")], ("150000000005", "000000000001"),
+       *[(call, no(255, 1)) for call in ("1a0200000000", "1a0300000000")])
 
-tables("table-line", "Document 04's table, the first six segments as printed there; the event wait has no limit (04, the table line)",
+tables("table-line", "Document 04's table, the first seven segments as printed there (04, the table line)",
        ("018020000200", ok(1, 0)), ("010722000200", ok(2, 0)), (START, ok(2, 2)),
-       (EVENT_WAIT(0), ok(0, 2),
+       ("160000000009", ok(0, 2),
         "0,0,0,255,0,1,1,0,-,0,8192,8192,0;1,1,0,128,0,5,5,0,-,8192,512,8704,0;2,2,2,7,0,5,5,0,-,8704,512,9216,0 | 0,1,2,3,3 | "
-        "0,-,-,[]; 0,-,-,[]; 0,-,-,[]; 0,-,-,[]; | 0,[]; 0,[]; 0,[]; 0,[]; | 0,[2]; 0,[]; 0,[]; 0,[]; | 0,0,0,0,0,0,0,0,0,0,0,0,0,0,0,0"))
+        "0,-,-,[]; 0,-,-,[]; 0,-,-,[]; 0,-,-,[]; | 0,[]; 0,[]; 0,[]; 0,[]; | 0,[2]; 0,[]; 0,[]; 0,[]; | 0,0,0,0,0,0,0,0,0,0,0,0,0,0,0,0 | "
+        "0,-,-,-,0;1,-,-,-,0;2,e,0,9,0"))
 
 tables("table-of-objects", "Owners, a handoff, queues, counts, a waiter and a charge in the table (04, the table line)",
        *added(9, 9, 9), (START, ok(1, 1)), (LOCK(0), ok(1, 1)), (LOCK(1), ok(1, 1)), (switch(0), ok(2, 2)), (LOCK(0), ok(0, 2)),
@@ -304,7 +338,7 @@ tables("table-of-objects", "Owners, a handoff, queues, counts, a waiter and a ch
 tables("no-call", "ff: operands out of range or unused, operations that are not there, lines that are none; each has its table (04, lines)",
        *[(call, no(255, 0), FRESH) for call in (
            "1b0000000001", "1b0100000001", "1c0100000000", "1c0000000001", "1e0200000000", "1eff00000000", "1e0000001000", "1e01ffffffff",
-           "1f0100000000", "1f0100000001", *[line(op) for op in range(0x15, 0x1b)], "150000000005", "160000000005", "170000000001",
+           "1f0100000000", "1f0100000001", *[line(op) for op in range(0x17, 0x1b)], "170000000001",
            "180000000001", "190100000000", "1a0100000000", "200000000000", "800000000000", "ff0000000000", "000000000000", "030000000001",
            "", "1b01", "1c000000000", "1c00000000000", "1B0100000000", "1c0000000000 ")],
        (START, ok(0, 0)), ("1e0200000000", no(255, 0), table(["0,0,1,255,0,1,1,0,-,0,8192,8192,0"], "0,1,0,1,1")),
@@ -351,6 +385,255 @@ tables("eight-dropped-by-a-signal",
        "The same with signal: no flag where the eighth was woken, the flag where none was (02, W-201; 05, 7, 9)",
        *eight_dropped(EVENT_WAIT, SIGNAL, {"events": "0,[1 2 3 4 5 6 7 8]; 0,[]; 0,[]; 0,[];"}, {"events": "1,[]; 0,[]; 0,[]; 0,[];"}),
        (EVENT_WAIT(0), ok(1, 9)), (EVENT_WAIT(1), ok(0, 9)))
+
+# W-202: waits with a limit
+
+tables("limit-ends-by-its-tick",
+       "Blocked with a limit of 3: tick 2 does nothing, tick 3 makes it Ready, out of the queue, marked; a switch is wanted (02, W-202)",
+       *added(128, 128), (START, ok(1, 1)),
+       (ACQUIRE_WITHIN(2, 3), ok(0, 1),
+        table([UNTOUCHED, task(1, BLOCKED, left=False), task(2, READY, left=False)], "0,1,1,3,3", semaphores=objects(o2="0,[1]"),
+              limits={1: "s,2,3,0"})),
+       (switch(0), ok(2, 2)), (TICK, ok(0, 2)),
+       (TICK, ok(0, 2),
+        table([UNTOUCHED, task(1, BLOCKED), task(2, RUNNING, left=False, rest=3)], "2,1,2,3,3", semaphores=objects(o2="0,[1]"),
+              charges="0,0,2", limits={1: "s,2,3,0"})),
+       (TICK, ok(1, 2),
+        table([UNTOUCHED, task(1, READY), task(2, RUNNING, left=False, rest=2)], "3,1,2,3,3", charges="0,0,3", limits={1: "-,-,-,1"})),
+       (TICK, ok(0, 2)), (switch(1), ok(1, 1)),
+       (RELEASE(2), ok(0, 1),
+        table([UNTOUCHED, task(1, RUNNING), task(2, READY, rest=1)], "4,1,1,3,3", semaphores=objects(o2="1,[]"), charges="0,0,4",
+              limits={1: "-,-,-,1"})))
+
+tables("limit-ends-out-of-the-middle",
+       "Eight queued: at tick 2 the limits of the fourth and the sixth end, at 3 that of the seventh; those behind move up (02, W-202; 05, 21)",
+       *added(*[128] * 9), (START, ok(1, 1)),
+       *[pair for at, call in enumerate((ACQUIRE(0), ACQUIRE_WITHIN(0, 9), ACQUIRE(0), ACQUIRE_WITHIN(0, 2), ACQUIRE(0), ACQUIRE_WITHIN(0, 2),
+                                         ACQUIRE_WITHIN(0, 3), ACQUIRE(0)), 1)
+         for pair in ((call, ok(0, at)), (switch(at - 1), ok(at + 1, at + 1)))],
+       (TICK, ok(0, 9),
+        table([UNTOUCHED, *[task(at, BLOCKED) for at in range(1, 9)], task(9, RUNNING, left=False, rest=4)], "1,1,9,10,10",
+              semaphores=objects(o0="0,[1 2 3 4 5 6 7 8]"), charges="0,0,0,0,0,0,0,0,0,1",
+              limits={2: "s,0,9,0", 4: "s,0,2,0", 6: "s,0,2,0", 7: "s,0,3,0"})),
+       (TICK, ok(1, 9),
+        table([UNTOUCHED, task(1, BLOCKED), task(2, BLOCKED), task(3, BLOCKED), task(4, READY), task(5, BLOCKED), task(6, READY),
+               task(7, BLOCKED), task(8, BLOCKED), task(9, RUNNING, left=False, rest=3)], "2,1,9,10,10",
+              semaphores=objects(o0="0,[1 2 3 5 7 8]"), charges="0,0,0,0,0,0,0,0,0,2",
+              limits={2: "s,0,9,0", 4: "-,-,-,1", 6: "-,-,-,1", 7: "s,0,3,0"})),
+       (TICK, ok(1, 9)), (RELEASE(0), ok(1, 9)),
+       (RELEASE(0), ok(1, 9),
+        table([UNTOUCHED, task(1, READY), task(2, READY), task(3, BLOCKED), task(4, READY), task(5, BLOCKED), task(6, READY), task(7, READY),
+               task(8, BLOCKED), task(9, RUNNING, left=False, rest=2)], "3,1,9,10,10",
+              semaphores=objects(o0="2,[3 5 8]"), charges="0,0,0,0,0,0,0,0,0,3",
+              limits={4: "-,-,-,1", 6: "-,-,-,1", 7: "-,-,-,1"})))
+
+tables("limit-and-sleeper-at-one-tick",
+       "A sleeper, a limit at an event and two at a semaphore, queued against the order of the slots: all Ready at tick 2 (02, W-202)",
+       *added(*[128] * 5), (START, ok(1, 1)), (BLOCK, ok(0, 1)), (switch(0), ok(2, 2)), (ACQUIRE_WITHIN(1, 2), ok(0, 2)), (WAKE(1), ok(1, 2)),
+       (switch(1), ok(3, 3)), (SLEEP(2), ok(0, 3)), (switch(2), ok(4, 4)), (WAIT_WITHIN(1, 2), ok(0, 4)), (switch(3), ok(5, 5)),
+       (switch(4), ok(1, 1)), (ACQUIRE_WITHIN(1, 2), ok(0, 1)), (switch(0), ok(5, 5)),
+       (TICK, ok(0, 5),
+        table([UNTOUCHED, task(1, BLOCKED), task(2, BLOCKED), task(3, SLEEPING, wake=2), task(4, BLOCKED), task(5, RUNNING, rest=4)],
+              "1,1,5,6,6", semaphores=objects(o1="0,[2 1]"), events=objects(o1="0,[4]"), charges="0,0,0,0,0,1",
+              limits={1: "s,1,2,0", 2: "s,1,2,0", 4: "e,1,2,0"})),
+       (TICK, ok(1, 5),
+        table([UNTOUCHED, task(1, READY), task(2, READY), task(3, READY, wake=2), task(4, READY), task(5, RUNNING, rest=3)],
+              "2,1,5,6,6", charges="0,0,0,0,0,2", limits={1: "-,-,-,1", 2: "-,-,-,1", 4: "-,-,-,1"})),
+       (TICK, ok(0, 5)))
+
+tables("limit-ended-by-a-release",
+       "A release and a signal wake: the limit ends unmarked, the id is gone, and its tick does nothing (02, W-202; 05, 17)",
+       *added(128, 128, 128), (START, ok(1, 1)), (ACQUIRE_WITHIN(0, 3), ok(0, 1)), (switch(0), ok(2, 2)), (WAIT_WITHIN(3, 3), ok(0, 2)),
+       (switch(1), ok(3, 3)), (RELEASE(0), ok(1, 3)),
+       (SIGNAL(3), ok(1, 3),
+        table([UNTOUCHED, task(1, READY), task(2, READY), task(3, RUNNING, left=False)], "0,1,3,4,4", semaphores=objects(o0="1,[]"))),
+       (TICK, ok(0, 3)), (TICK, ok(0, 3)),
+       (TICK, ok(0, 3),
+        table([UNTOUCHED, task(1, READY), task(2, READY), task(3, RUNNING, left=False, rest=2)], "3,1,3,4,4", semaphores=objects(o0="1,[]"),
+              charges="0,0,0,3")))
+
+tables("limit-ended-by-hand",
+       "Wake ends the limit and leaves the id queued; its tick does nothing; a release drops it and wakes the one behind (02, W-202; 05, 20)",
+       *added(128, 128, 128), (START, ok(1, 1)), (ACQUIRE_WITHIN(0, 2), ok(0, 1)), (switch(0), ok(2, 2)), (ACQUIRE_WITHIN(0, 9), ok(0, 2)),
+       (switch(1), ok(3, 3)),
+       (WAKE(1), ok(1, 3),
+        table([UNTOUCHED, task(1, READY), task(2, BLOCKED), task(3, RUNNING, left=False)], "0,1,3,4,4", semaphores=objects(o0="0,[1 2]"),
+              limits={2: "s,0,9,0"})),
+       (TICK, ok(0, 3)),
+       (TICK, ok(0, 3),
+        table([UNTOUCHED, task(1, READY), task(2, BLOCKED), task(3, RUNNING, left=False, rest=3)], "2,1,3,4,4",
+              semaphores=objects(o0="0,[1 2]"), charges="0,0,0,2", limits={2: "s,0,9,0"})),
+       (RELEASE(0), ok(1, 3),
+        table([UNTOUCHED, task(1, READY), task(2, READY), task(3, RUNNING, left=False, rest=3)], "2,1,3,4,4", semaphores=objects(o0="1,[]"),
+              charges="0,0,0,2")))
+
+tables("limit-ended-by-status",
+       "Status ends a limit, status Blocked too, marked no; the id stays queued, and the limit's tick does nothing (02, W-202; 05, 18, 20)",
+       *added(128), (START, ok(1, 1)), (ACQUIRE_WITHIN(1, 1), ok(0, 1)),
+       (TICK, ok(1, 1), table([UNTOUCHED, task(1, READY, left=False)], "1,1,1,2,2", charges="0,1", limits={1: "-,-,-,1"})),
+       (ACQUIRE_WITHIN(1, 1), ok(0, 1),
+        table([UNTOUCHED, task(1, BLOCKED, left=False)], "1,1,1,2,2", semaphores=objects(o1="0,[1]"), charges="0,1", limits={1: "s,1,2,1"})),
+       (status(2), ok(0, 1),
+        table([UNTOUCHED, task(1, BLOCKED, left=False)], "1,1,1,2,2", semaphores=objects(o1="0,[1]"), charges="0,1")),
+       (TICK, ok(1, 1),
+        table([UNTOUCHED, task(1, BLOCKED, left=False)], "2,1,1,2,2", semaphores=objects(o1="0,[1]"), charges="0,2")),
+       *[pair for state in (READY, SUSPENDED, SLEEPING)
+         for pair in ((ACQUIRE_WITHIN(1, 1), ok(0, 1),
+                       table([UNTOUCHED, task(1, BLOCKED, left=False)], "2,1,1,2,2", semaphores=objects(o1="0,[1]"), charges="0,2",
+                             limits={1: "s,1,3,0"})),
+                      (status(state), ok(0, 1),
+                       table([UNTOUCHED, task(1, state, left=False)], "2,1,1,2,2", semaphores=objects(o1="0,[1]"), charges="0,2")))],
+       (TICK, ok(1, 1),
+        table([UNTOUCHED, task(1, READY, left=False)], "3,1,1,2,2", semaphores=objects(o1="0,[1]"), charges="0,3")))
+
+tables("limit-ended-by-sleep", "Sleep ends a limit; the sleeper wakes at its own tick, and that of the limit does nothing (02, W-202; 05, 20)",
+       *added(128, 128), (START, ok(1, 1)), (WAIT_WITHIN(2, 1), ok(0, 1)),
+       (SLEEP(2), ok(0, 1),
+        table([UNTOUCHED, task(1, SLEEPING, left=False, wake=2), task(2, READY, left=False)], "0,1,1,3,3", events=objects(o2="0,[1]"))),
+       (switch(0), ok(2, 2)),
+       (TICK, ok(0, 2),
+        table([UNTOUCHED, task(1, SLEEPING, wake=2), task(2, RUNNING, left=False, rest=4)], "1,1,2,3,3", events=objects(o2="0,[1]"),
+              charges="0,0,1")),
+       (TICK, ok(1, 2),
+        table([UNTOUCHED, task(1, READY, wake=2), task(2, RUNNING, left=False, rest=3)], "2,1,2,3,3", events=objects(o2="0,[1]"),
+              charges="0,0,2")))
+
+tables("limit-ended-by-exit", "Exit ends the limit of its task, and that of the task which waits for it; the ids stay queued (02, W-202; 05, 20)",
+       *added(128, 128, 128), (START, ok(1, 1)), (WAIT(2), ok(0, 1)), (ACQUIRE_WITHIN(3, 2), ok(0, 1)), (switch(0), ok(2, 2)),
+       (WAIT_WITHIN(0, 2), ok(0, 2),
+        table([UNTOUCHED, task(1, BLOCKED), task(2, BLOCKED, left=False, waiter=1), task(3, READY, left=False)], "0,1,2,4,4",
+              semaphores=objects(o3="0,[1]"), events=objects(o0="0,[2]"), limits={1: "s,3,2,0", 2: "e,0,2,0"})),
+       (EXIT, ok(0, 2),
+        table([UNTOUCHED, task(1, READY), task(2, TERMINATED, left=False, rest=0), task(3, READY, left=False)], "0,1,2,4,4",
+              semaphores=objects(o3="0,[1]"), events=objects(o0="0,[2]"))),
+       (switch(1), ok(3, 3)), (TICK, ok(0, 3)),
+       (TICK, ok(0, 3),
+        table([UNTOUCHED, task(1, READY), task(2, TERMINATED, rest=0), task(3, RUNNING, left=False, rest=3)], "2,1,3,4,4",
+              semaphores=objects(o3="0,[1]"), events=objects(o0="0,[2]"), charges="0,0,0,2")))
+
+tables("limit-ended-by-blocking-once-more",
+       "Current, Blocked already, blocks once more: block, wait, lock, acquire and event wait each end its limit (02, W-202; 05, 18)",
+       *added(128, 128), (START, ok(1, 1)), (switch(0), ok(2, 2)), (LOCK(0), ok(1, 2)), (switch(1), ok(1, 1)),
+       *[pair for again, waiter, queues in (
+           (BLOCK, "-", ("1,2,-,[]", "0,[]")), (WAIT(2), 1, ("1,2,-,[]", "0,[]")), (LOCK(0), 1, ("1,2,-,[1]", "0,[]")),
+           (ACQUIRE(3), 1, ("1,2,-,[1]", "0,[]")), (EVENT_WAIT(1), 1, ("1,2,-,[1]", "0,[1]")))
+         for pair in ((ACQUIRE_WITHIN(3, 2), ok(0, 1)),
+                      (again, ok(0, 1),
+                       table([UNTOUCHED, task(1, BLOCKED), task(2, READY, owned=1, waiter=waiter)], "0,1,1,3,3", mutexes(queues[0]),
+                             objects(o3="0,[1]"), objects(o1=queues[1]))))],
+       (TICK, ok(1, 1)),
+       (TICK, ok(1, 1),
+        table([UNTOUCHED, task(1, BLOCKED), task(2, READY, owned=1, waiter=1)], "2,1,1,3,3", mutexes("1,2,-,[1]"), objects(o3="0,[1]"),
+              objects(o1="0,[1]"), "0,2")))
+
+tables("limit-begun-anew",
+       "A new limit ends the old one, marked no; where none was, the mark stays; one queued keeps its place (02, W-202; 05, 15, 17, 18)",
+       *added(128, 128), (START, ok(1, 1)), (ACQUIRE_WITHIN(0, 1), ok(0, 1)), (TICK, ok(1, 1)), (ACQUIRE(0), ok(0, 1)), (switch(0), ok(2, 2)),
+       (ACQUIRE(0), ok(0, 2)), (WAKE(1), ok(1, 2)), (switch(1), ok(1, 1)),
+       (ACQUIRE_WITHIN(0, 5), ok(0, 1),
+        table([UNTOUCHED, task(1, BLOCKED), task(2, BLOCKED)], "1,1,1,3,3", semaphores=objects(o0="0,[1 2]"), charges="0,1",
+              limits={1: "s,0,6,1"})),
+       (TICK, ok(1, 1)),
+       (ACQUIRE_WITHIN(0, 5), ok(0, 1),
+        table([UNTOUCHED, task(1, BLOCKED), task(2, BLOCKED)], "2,1,1,3,3", semaphores=objects(o0="0,[1 2]"), charges="0,2",
+              limits={1: "s,0,7,0"})),
+       (WAIT_WITHIN(2, 1), ok(0, 1),
+        table([UNTOUCHED, task(1, BLOCKED), task(2, BLOCKED)], "2,1,1,3,3", semaphores=objects(o0="0,[1 2]"), events=objects(o2="0,[1]"),
+              charges="0,2", limits={1: "e,2,3,0"})),
+       (TICK, ok(1, 1),
+        table([UNTOUCHED, task(1, READY), task(2, BLOCKED)], "3,1,1,3,3", semaphores=objects(o0="0,[1 2]"), charges="0,3",
+              limits={1: "-,-,-,1"})))
+
+tables("limit-in-one-of-two-queues",
+       "The tick takes the id out of the limit's queue alone; the other still has it, and a release drops it there (02, W-202; 05, 21)",
+       *added(128, 128), (START, ok(1, 1)), (ACQUIRE(1), ok(0, 1)), (EVENT_WAIT(1), ok(0, 1)), (ACQUIRE_WITHIN(2, 1), ok(0, 1)),
+       (switch(0), ok(2, 2)),
+       (TICK, ok(1, 2),
+        table([UNTOUCHED, task(1, READY), task(2, RUNNING, left=False, rest=4)], "1,1,2,3,3", semaphores=objects(o1="0,[1]"),
+              events=objects(o1="0,[1]"), charges="0,0,1", limits={1: "-,-,-,1"})),
+       (RELEASE(1), ok(0, 2)), (SIGNAL(1), ok(0, 2)),
+       (RELEASE(2), ok(0, 2),
+        table([UNTOUCHED, task(1, READY), task(2, RUNNING, left=False, rest=4)], "1,1,2,3,3", semaphores=objects(o1="1,[]", o2="1,[]"),
+              events=objects(o1="1,[]"), charges="0,0,1", limits={1: "-,-,-,1"})))
+
+tables("limited-wait-that-need-not-block",
+       "With a permit or the flag it answers 1, begins no limit and ends none; nor do acquire and event wait there (02, W-202; 05, 14, 19)",
+       *added(128), (START, ok(1, 1)), (RELEASE(0), ok(0, 1)), (ACQUIRE_WITHIN(0, 4), ok(1, 1)), (SIGNAL(0), ok(0, 1)),
+       (WAIT_WITHIN(0, 4), ok(1, 1), table([UNTOUCHED, task(1, RUNNING, left=False)], "0,1,1,2,2")),
+       (WAIT_WITHIN(1, 9), ok(0, 1)), (RELEASE(0), ok(0, 1)), (ACQUIRE_WITHIN(0, 4), ok(1, 1)), (SIGNAL(0), ok(0, 1)),
+       (WAIT_WITHIN(0, 4), ok(1, 1),
+        table([UNTOUCHED, task(1, BLOCKED, left=False)], "0,1,1,2,2", events=objects(o1="0,[1]"), limits={1: "e,1,9,0"})),
+       (RELEASE(0), ok(0, 1)), (ACQUIRE(0), ok(1, 1)), (SIGNAL(0), ok(0, 1)), (EVENT_WAIT(0), ok(1, 1)), (TRY_ACQUIRE(0), ok(0, 1)),
+       (LOCK(0), ok(1, 1),
+        table([UNTOUCHED, task(1, BLOCKED, left=False, owned=1)], "0,1,1,2,2", mutexes("1,1,-,[]"), events=objects(o1="0,[1]"),
+              limits={1: "e,1,9,0"})))
+
+tables("limit-left-by-a-refused-call",
+       "Refused calls leave a limit, a wait for a Terminated task too; one for another task ends it (02, W-202; 05, 19)",
+       *added(128, 128), (START, ok(1, 1)), (LOCK(1), ok(1, 1)), (switch(0), ok(2, 2)), (EXIT, ok(0, 2)), (switch(1), ok(1, 1)),
+       (ACQUIRE_WITHIN(0, 7), ok(0, 1)), (ACQUIRE_WITHIN(1, 0), no(7, 1)), (WAIT_WITHIN(1, 0), no(7, 1)), (ACQUIRE_WITHIN(4, 1), no(20, 1)),
+       (WAIT_WITHIN(255, 1), no(20, 1)), (EXIT, no(11, 1)), (WAIT(1), no(7, 1)), (WAIT(9), no(8, 1)), (status(1), no(7, 1)), (LOCK(1), no(13, 1)),
+       (UNLOCK(0), no(14, 1)), (START, no(3, 1)), (line(0x04), no(16, 1)),
+       (WAIT(2), ok(0, 1),
+        table([UNTOUCHED, task(1, BLOCKED, owned=1), task(2, TERMINATED, rest=0)], "0,1,1,3,3",
+              "0,-,-,[]; 1,1,-,[]; 0,-,-,[]; 0,-,-,[];", objects(o0="0,[1]"), limits={1: "s,0,7,0"})),
+       (WAIT(0), ok(0, 1),
+        table(["0,0,0,255,0,1,1,0,1,0,8192,8192,0", task(1, BLOCKED, owned=1), task(2, TERMINATED, rest=0)], "0,1,1,3,3",
+              "0,-,-,[]; 1,1,-,[]; 0,-,-,[]; 0,-,-,[];", objects(o0="0,[1]"))))
+
+tables("limited-wait-refused",
+       "20 before 2, 2 before 7, 7 before 12, and 7 also with a permit or the flag, which stay; one queued already is not 12 (02, W-202; 05, 13)",
+       *[(op(4, 0), no(20, 0)) for op in (ACQUIRE_WITHIN, WAIT_WITHIN)], *[(op(3, 0), no(2, 0)) for op in (ACQUIRE_WITHIN, WAIT_WITHIN)],
+       *[(op(0, 5), no(2, 0), FRESH) for op in (ACQUIRE_WITHIN, WAIT_WITHIN)], (RELEASE(3), ok(0, 0)), (SIGNAL(3), ok(0, 0)), *added(*[128] * 9),
+       (START, ok(1, 1)), *[(op(4, 0), no(20, 1)) for op in (ACQUIRE_WITHIN, WAIT_WITHIN)],
+       *[(op(3, 0), no(7, 1)) for op in (ACQUIRE_WITHIN, WAIT_WITHIN)], *[(op(2, 0), no(7, 1)) for op in (ACQUIRE_WITHIN, WAIT_WITHIN)],
+       *[pair for at in range(1, 9)
+         for pair in ((ACQUIRE_WITHIN(0, 9), ok(0, at)), (WAIT_WITHIN(0, 8), ok(0, at)), (switch(at - 1), ok(at + 1, at + 1)))],
+       *[(op(0, ticks), no(number, 9)) for op in (ACQUIRE_WITHIN, WAIT_WITHIN) for ticks, number in ((0, 7), (1, 12))],
+       (WAKE(5), ok(1, 9)), (BLOCK, ok(0, 9)), (switch(8), ok(5, 5)),
+       (ACQUIRE_WITHIN(0, 7), ok(0, 5),
+        table([UNTOUCHED, *[task(at, BLOCKED) for at in range(1, 10)]], "0,1,5,10,10", semaphores=objects(o0="0,[1 2 3 4 5 6 7 8]", o3="1,[]"),
+              events=objects(o0="0,[1 2 3 4 5 6 7 8]", o3="1,[]"),
+              limits={**{at: "e,0,8,0" for at in range(1, 9)}, 5: "s,0,7,0"})))
+
+tables("limit-ended-by-a-handoff",
+       "A task queued at a mutex waits at a semaphore with a limit, and unlock's handoff ends that; it stays queued there (02, W-202; 05, 22)",
+       *added(128, 128), (START, ok(1, 1)), (switch(0), ok(2, 2)), (LOCK(0), ok(1, 2)), (switch(1), ok(1, 1)), (LOCK(0), ok(0, 1)),
+       (ACQUIRE_WITHIN(1, 6), ok(0, 1),
+        table([UNTOUCHED, task(1, BLOCKED), task(2, READY, owned=1)], "0,1,1,3,3", mutexes("1,2,-,[1]"), objects(o1="0,[1]"),
+              limits={1: "s,1,6,0"})),
+       (switch(0), ok(2, 2)),
+       (UNLOCK(0), ok(1, 2),
+        table([UNTOUCHED, task(1, READY, owned=1), task(2, RUNNING)], "0,1,2,3,3", mutexes("1,1,1,[]"), objects(o1="0,[1]"))))
+
+tables("limit-of-idle",
+       "Idle's limit ends by its tick; Blocked and picked since none is Ready it ends unmarked, and the place stays (02, W-202; 05, 24)",
+       (START, ok(0, 0)),
+       (ACQUIRE_WITHIN(0, 2), ok(0, 0), table([idle(BLOCKED, left=False)], "0,1,0,1,1", semaphores=objects(o0="0,[0]"), limits={0: "s,0,2,0"})),
+       (TICK, ok(1, 0)),
+       (TICK, ok(1, 0), table([idle(READY, left=False)], "2,1,0,1,1", charges="2", limits={0: "-,-,-,1"})),
+       (IDLE, ok(0, 0), table([idle(RUNNING)], "2,1,0,1,1", charges="2", limits={0: "-,-,-,1"})),
+       (ACQUIRE_WITHIN(0, 1), ok(0, 0), table([idle(BLOCKED)], "2,1,0,1,1", semaphores=objects(o0="0,[0]"), charges="2", limits={0: "s,0,3,1"})),
+       (IDLE, ok(0, 0), table([idle(RUNNING)], "2,1,0,1,1", semaphores=objects(o0="0,[0]"), charges="2")),
+       (TICK, ok(1, 0), table([idle(RUNNING)], "3,1,0,1,1", semaphores=objects(o0="0,[0]"), charges="3")),
+       (RELEASE(0), ok(0, 0), table([idle(RUNNING)], "3,1,0,1,1", semaphores=objects(o0="1,[]"), charges="3")))
+
+tables("mark-of-a-new-task", "The mark stays at exit where no limit was left; the next task in that slot has none (02, W-202; 05, 16, 17)",
+       *added(128, 128), (START, ok(1, 1)), (WAIT_WITHIN(0, 1), ok(0, 1)), (TICK, ok(1, 1)), (EXIT, ok(0, 1)),
+       (switch(0), ok(2, 2),
+        table([UNTOUCHED, task(1, TERMINATED, rest=0), task(2, RUNNING, left=False)], "1,1,2,3,3", charges="0,1", limits={1: "-,-,-,1"})),
+       (REAP(1), ok(0x2000, 2)),
+       (add(0, 128), ok(3, 2),
+        table([UNTOUCHED, task(1, READY, left=False, id=3), task(2, RUNNING, left=False)], "1,1,2,3,4", charges="0,1")))
+
+tables("limit-is-in-ticks", "A limit is in ticks at any rate, and its tick has 64 bits (02, W-202; 05, 12)",
+       (fresh(100), ok(0, 0)), *added(128), (START, ok(1, 1)), (TICK, ok(0, 1)),
+       (ACQUIRE_WITHIN(0, 11), ok(0, 1),
+        table([UNTOUCHED, task(1, BLOCKED, left=False, rest=4)], "1,1,1,2,2", semaphores=objects(o0="0,[1]"), charges="0,1",
+              limits={1: "s,0,12,0"})),
+       (WAIT_WITHIN(3, NONE), ok(0, 1),
+        table([UNTOUCHED, task(1, BLOCKED, left=False, rest=4)], "1,1,1,2,2", semaphores=objects(o0="0,[1]"), events=objects(o3="0,[1]"),
+              charges="0,1", limits={1: "e,3,4294967296,0"})))
 
 # Current id and result
 
@@ -449,22 +732,62 @@ tables("fresh-at-rate-zero", "Fresh with hz 0 is 7; the kernel, its hz and the w
        (SLEEP(3), ok(0, 1),
         table([UNTOUCHED, "1,1,3,128,4,5,4,1,-,8192,64,8256,0"], "1,1,1,2,2", "1,1,-,[]; 0,-,-,[]; 0,-,-,[]; 0,-,-,[];", charges="0,1")))
 
+# The last ticks
+
+late("limit-at-the-last-tick",
+     "12 ticks before 2^64 - 1: longer limits are held there, and that tick ends them; later a tick is 18, and a limit stays (02, W-202)",
+     *added(128, 128, 128), (START, ok(1, 1)),
+     (ACQUIRE_WITHIN(0, 13), ok(0, 1),
+      table([UNTOUCHED, task(1, BLOCKED, left=False), task(2, READY, left=False), task(3, READY, left=False)], "18446744073709551603,1,1,4,4",
+            semaphores=objects(o0="0,[1]"), limits={1: "s,0,18446744073709551615,0"})),
+     (switch(0), ok(2, 2)), (WAIT_WITHIN(1, 11), ok(0, 2)), (switch(1), ok(3, 3)),
+     *[(TICK, ok(0, 3))] * 4, (TICK, ok(1, 3)), *[(TICK, ok(0, 3))] * 4,
+     (TICK, ok(1, 3),
+      table([UNTOUCHED, task(1, BLOCKED), task(2, BLOCKED), task(3, RUNNING, left=False)], "18446744073709551613,1,3,4,4",
+            semaphores=objects(o0="0,[1]"), events=objects(o1="0,[2]"), charges="0,0,0,10",
+            limits={1: "s,0,18446744073709551615,0", 2: "e,1,18446744073709551614,0"})),
+     (TICK, ok(1, 3),
+      table([UNTOUCHED, task(1, BLOCKED), task(2, READY), task(3, RUNNING, left=False, rest=4)], "18446744073709551614,1,3,4,4",
+            semaphores=objects(o0="0,[1]"), charges="0,0,0,11", limits={1: "s,0,18446744073709551615,0", 2: "-,-,-,1"})),
+     (TICK, ok(1, 3),
+      table([UNTOUCHED, task(1, READY), task(2, READY), task(3, RUNNING, left=False, rest=3)], "18446744073709551615,1,3,4,4",
+            charges="0,0,0,12", limits={1: "-,-,-,1", 2: "-,-,-,1"})),
+     (TICK, no(18, 3)), (switch(2), ok(1, 1)),
+     (ACQUIRE_WITHIN(0, NONE), ok(0, 1)),
+     (TICK, no(18, 1),
+      table([UNTOUCHED, task(1, BLOCKED), task(2, READY), task(3, READY, rest=3)], "18446744073709551615,1,1,4,4",
+            semaphores=objects(o0="0,[1]"), charges="0,0,0,12", limits={1: "s,0,18446744073709551615,1", 2: "-,-,-,1"})))
+
+late("sleep-at-the-last-tick", "The same of sleeps, which are as before (01, state calls)",
+     *added(128, 128), (START, ok(1, 1)),
+     (SLEEP(13), ok(0, 1),
+      table([UNTOUCHED, task(1, SLEEPING, left=False, wake=18446744073709551615), task(2, READY, left=False)], "18446744073709551603,1,1,3,3")),
+     (switch(0), ok(2, 2)), *[(TICK, ok(0, 2))] * 4, (TICK, ok(1, 2)), *[(TICK, ok(0, 2))] * 4, (TICK, ok(1, 2)),
+     (TICK, ok(0, 2)),
+     (TICK, ok(1, 2),
+      table([UNTOUCHED, task(1, READY, wake=18446744073709551615), task(2, RUNNING, left=False, rest=3)], "18446744073709551615,1,2,3,3",
+            charges="0,0,12")),
+     (TICK, no(18, 2)))
+
 
 def played(program, lines):
-    """What the model prints: an answer for each line and, for `tables`, a table."""
+    """What the model prints: an answer for each line and, but for `turns`, a table."""
     out = []
-    model.run("".join(call + "\n" for call in lines).encode(), program == "tables", out)
+    model.run("".join(call + "\n" for call in lines).encode(), program != "turns", out, model.LATE if program == "late" else 0)
     return [text.rstrip("\n") for text in out]
 
 
 def compared(program, lines):
-    """How many calls there are before the first that drops a head which is not Blocked."""
+    """How many calls there are before the first wait with a limit or the first that drops a head which is not Blocked, and what is
+    the yardstick from there on."""
     machine = model.Machine(program == "tables")
     for at, call in enumerate(lines):
-        machine.step(call.encode())
+        op = machine.step(call.encode())[0]
+        if program == "tables" and op in (0x15, 0x16):
+            return at, "W-202"
         if any(state != model.BLOCKED for state in machine.kernel.dropped):
-            return at
-    return len(lines)
+            return at, "W-201"
+    return len(lines), None
 
 
 def in_domain(call, answer):
@@ -473,7 +796,7 @@ def in_domain(call, answer):
 
 
 def replayed(calls, last=None):
-    """What the reference prints for calls of the domain; with a last line outside it, the number that it gives, or W-201."""
+    """What the reference prints for calls of the domain; with a last line outside it, the number that it gives, or the request."""
     given = "".join(call + "\n" for call in calls + ([] if last is None else [last]))
     done = subprocess.run([REFERENCE, "replay"], input=given, capture_output=True, text=True)
     assert done.returncode == (0 if last is None else 3), done.stderr
@@ -483,16 +806,16 @@ def replayed(calls, last=None):
 def check(program, name, calls):
     """Holds the case to the model and the reference; gives what is printed."""
     lines, printed = [call[0] for call in calls], played(program, [call[0] for call in calls])
-    answers = printed[::2] if program == "tables" else printed
-    end, asked, mine = compared(program, lines), [], []
+    answers = printed if program == "turns" else printed[::2]
+    (end, request), asked, mine = compared(program, lines) if program != "late" else (-1, None), [], []
     for at, (call, answer, *after) in enumerate(calls):
         assert answers[at] == answer, (name, at, call, answers[at], answer)
         assert not after or printed[2 * at + 1] == after[0], (name, at, call, printed[2 * at + 1], after[0])
         if at >= end:
-            assert at > end or replayed(asked, call) == "W-201", (name, at, call)
+            assert at > end or replayed(asked, call) == request, (name, at, call)
         elif in_domain(call, answer):
             asked.append(call)
-        elif program == "tables" or call[:2] not in ("1b", "1c", "1d", "1e", "1f"):     # the reference has them
+        elif program == "tables" or call[:2] not in ("15", "16", "1b", "1c", "1d", "1e", "1f"):     # of `tables` alone
             number = replayed(asked, call)
             assert number == answer[:2], (name, at, call, number, answer)
     model.replay("".join(call + "\n" for call in asked).encode(), mine)

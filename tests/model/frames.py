@@ -1,10 +1,14 @@
 #!/usr/bin/env python3
-"""Random lists for `turns` or `tables` that meet every refusal that a list from fresh can meet there, with malformed lines; and
-lists in which release or signal drops up to eight heads.
+"""Random lists for `turns` or `tables` that meet every refusal that a list from fresh can meet there, with malformed lines; lists
+in which release or signal drops up to eight heads; and for `tables` lists in which limits end: out of queues of up to eight by
+their own ticks, and in every other way.
 
   frames.py SEED LINES MALFORMED LISTS turns|tables PROGRAM [ARG..]
         LISTS lists of LINES lines, from SEED on, MALFORMED of them malformed (0.03 is 3 in 100), and ten times as many of
-        the other kind; runs PROGRAM on each and compares with model.py, byte for byte"""
+        each other kind; runs PROGRAM on each and compares with model.py, byte for byte
+  frames.py late SEED LISTS PROGRAM [ARG..]
+        LISTS lists with limits and sleeps in the last ticks before 2^64 - 1, for a `tables` whose fresh kernel begins at
+        model.LATE (tests/differential/unproved.py makes it)"""
 import random
 import sys
 
@@ -14,6 +18,8 @@ import model
 
 # What queues current, and what drops heads of that queue.
 DROPS = {0xa: 0xb, 0xd: 0xf, 0x10: 0x11}
+# The form with a limit of what queues current.
+WITHIN = {0xd: 0x15, 0x10: 0x16}
 
 
 def malformed():
@@ -50,13 +56,15 @@ def operation():
         return rng.choice([4, 4, 4, what, what, what, 9, 3, 1])
     if mood == "heads":
         return rng.choice([4] * 6 + [what] * 6 + [9] * 3 + [5, 8, 0x12, 7, 1, 3, DROPS[what]])
+    if mood == "limits":
+        return rng.choice([3, 3, 3, 4, 4, 4, 0x15, 0x15, 0x16, 0x16, 0x15, 0x16, 0xd, 0x10, 0xf, 0x11, 6, 8, 9, 0xa, 0xb, 0x12, 0x13, 5, 7, 1])
     if mood == "life":
         return rng.choice([1, 1, 3, 4, 4, 4, 5, 5, 6, 6, 7, 7, 9, 0x14, 0x12])
     if mood == "mutex":
         return rng.choice([3, 4, 4, 4, 5, 9, 0xa, 0xa, 0xa, 0xb, 0xb, 0xb, 0xc])
     if mood == "words":
         return rng.choice([1, 3, 4, 4, 4, 4, 5, 7, 9, 0x14])
-    return rng.randrange(0x01, 0x15)
+    return rng.randrange(0x01, 0x17 if machine.operations is model.TABLES else 0x15)
 
 
 def word():
@@ -95,10 +103,12 @@ def frame():
             a = rng.choice([0, 1, 127, 128, 255])
     elif op == 8:
         y = rng.choice([0, 1, 1, 2, 3, 10, 0xffffffff])
-    elif 0xa <= op <= 0x11:
+    elif 0xa <= op <= 0x11 or op in (0x15, 0x16):
         a = 0 if mood in ("crowd", "heads") else rng.choice([0, 0, 0, 1, 2, 3])
         if rng.random() < .02:
             a = rng.choice([4, 5, 128, 255])
+        if op > 0x11:
+            y = rng.choice([1, 1, 1, 2, 2, 3, 3, 4, 5, 8, 20, 50, 0, 0xffffffff])
     elif op == 0x12:
         a = rng.choice([0, 0, 0, 0, 2, 3, 4, 1, 5, 6, 255])
     elif op == 0x1b:
@@ -116,8 +126,8 @@ def make(seed, lines, share, tables):
     rng, machine, mood, what, out = random.Random(seed), model.Machine(tables), "any", 0xd, []
     for n in range(lines):
         if rng.random() < .02:
-            mood = rng.choice(["any", "any", "crowd", "heads", "life", "mutex"] + ["words"] * tables)
-            what = rng.choice([*DROPS])
+            mood = rng.choice(["any", "any", "crowd", "heads", "life", "mutex"] + ["words", "limits", "limits"] * tables)
+            what = rng.choice([*DROPS, *WITHIN.values()] if tables and mood == "crowd" else [*DROPS])
         if rng.random() < share:
             line = malformed()
         elif not machine.kernel.started and n > 10 and rng.random() < .2:
@@ -127,6 +137,146 @@ def make(seed, lines, share, tables):
         machine.step(line)
         out.append(line)
     return b"\n".join(out) + (b"\n" if rng.random() < .5 else b"")
+
+
+# What ends a limit other than its own tick: the operation, and for a status its k, else whether the task is current. A switch
+# ends idle's alone.
+ENDS = [(op, "current's") for op in (4, 5, 6, 8, 9, 0xa, 0xd, 0xf, 0x10, 0x11, 0x13, 0x15, 0x16)]
+ENDS += [(op, "another's") for op in (4, 5, 9, 0xb, 0xf, 0x11)] + [(0x12, k) for k in (0, 2, 3, 4)]
+
+
+def ended(seed):
+    """A list of `tables`, as bytes: a limit is left by calls that are refused or need not block, and then ended by one of ENDS, with the
+    mark yes or no before: by the seed each in turn. Then ticks up to where it would have ended, and a release or signal."""
+    (op, who), wait, mark = ENDS[seed % len(ENDS)], [*WITHIN][seed // len(ENDS) % 2], seed // len(ENDS) // 2 % 2
+    rng, k, out = random.Random(seed), seed % 4, []
+    ticks = rng.randrange(2, 6)
+
+    def call(op, k=0, y=0):
+        out.append(f"{op:02x}{k:02x}{y:08x}".encode())
+
+    def limited():
+        if mark:
+            call(WITHIN[wait], k, 1)
+            call(3)
+        for before, *rest in ((0xb, 0xa), (5, 6, 0, 2), (0xf, 0xd, k), (0x11, 0x10, k)):
+            if op == before:
+                call(*rest)
+        call(WITHIN[wait], k, ticks)
+
+    for at in range(3):
+        call(1, 8, (8192 + 16 * at) << 16 | 16)
+    call(2)
+    if op == 4:
+        # All block, and idle waits; another one is woken, and blocks again.
+        for at in range(3):
+            call(0x13)
+            call(4, 0, 8192 + 16 * at)
+        limited()
+        call(5)
+        if who == "another's":
+            call(9, 0, 2)
+            call(4, 0, 0)
+            call(0x13)
+        call(4, 0, 0 if who == "current's" else 8208)
+    else:
+        # Task 1 waits. Before that task 2 has taken a mutex and was a waiter, and task 3 has ended.
+        call(4, 0, 8192)
+        call(0xa)
+        call(6, 0, 0)
+        call(4, 0, 8208)
+        call(5)
+        call(4, 0, 8224)
+        call(9, 0, 2)
+        limited()
+        # These leave the limit: refused, not blocking, or about other tasks.
+        other = (k + 1) % 4
+        for one in ((6, 0, 0), (6, 0, 1), (6, 0, 3), (6, 0, 9), (0x12, 1), (0x12, 5), (0x15, k, 0), (0x16, k, 0), (0x15, 4, 1), (0x16, 4, 1),
+                    (0xd, 4), (0x10, 4), (3,)):
+            if rng.random() < .5:
+                call(*one)
+        for gives, takes in ((0xf, 0x15), (0xf, 0xd), (0x11, 0x16), (0x11, 0x10)):
+            call(gives, other)
+            call(takes, other, 9 if takes > 0x14 else 0)
+        for one in ((0xa, 1), (5,), (0xb, 1)):
+            call(*one)
+        if who == "another's":
+            call(4, 0, 8192)
+            if op == 5:
+                call(0xb)
+        call(op, who if op == 0x12 else k if op > 0xc and op != 0x13 else 0,
+             {6: 2, 8: rng.randrange(9), 9: 1, 0x15: 7, 0x16: 7}.get(op, 0))
+    for _ in range(ticks + 1):
+        call(3)
+    call(DROPS[wait], k)
+    return b"\n".join(out)
+
+
+def limits(seed, tick=0):
+    """A list of `tables`, as bytes: one to eight tasks, in low slots or in the last ones, queue at a semaphore or an event, idle among
+    them or not, most with a limit, and others sleep. The limit of one of them ends first, or with others: by the seed each in turn of
+    every place of every length. Then ticks, and calls that end limits otherwise."""
+    rng, machine, out = random.Random(seed), model.Machine(True, tick), []
+
+    def call(op, k=0, y=0):
+        out.append(f"{op:02x}{k:02x}{y:08x}".encode())
+        machine.step(out[-1])
+
+    def switch():
+        call(4, 0, machine.kernel.own().start)
+
+    wait = [*WITHIN][seed % 2]
+    length, place = [(length, place) for length in range(1, 9) for place in range(length)][seed // 2 % 36]
+    k, first, idle = rng.randrange(4), rng.randrange(1, 5), rng.random() < .4
+    alone = seed // 72 % 3 == 0     # no other limit ends at that tick, and nothing comes before it
+    later = lambda: rng.choice([first + alone, first + 1, first + 2, rng.randrange(5, 20), 0xffffffff])
+    tasks = length - idle + rng.randrange(4)
+    worse = 15 - tasks if not idle and rng.random() < .3 else 0
+    for at in range(worse + tasks):
+        call(1, 9 if at < worse else 8, (8192 + 16 * at) << 16 | 16)
+    call(WITHIN[wait], rng.randrange(5), rng.randrange(2))
+    call(2)
+    for at in range(length):
+        while at == length - 1 and idle and machine.kernel.current != 0:
+            call(8, 0, rng.choice([first, first, 1, 9]))
+            switch()
+        if rng.random() < .15:
+            call(rng.choice([*WITHIN.values()]), rng.randrange(4), later())
+        if at == place or rng.random() < .7:
+            call(WITHIN[wait], k, first if at == place else later())
+        else:
+            call(wait, k)
+        if machine.kernel.current != 0:
+            switch()
+    if length == 8 and not idle and machine.kernel.current != 0:
+        # A ninth, with a limit elsewhere.
+        call(WITHIN[wait], (k + 1) % 4, later())
+        call(wait, k)
+        call(WITHIN[wait], k, later())
+        call(WITHIN[wait], k, 0)
+    for _ in range(first if alone else rng.randrange(first)):
+        call(3)
+    for _ in range(rng.randrange(10, 60)):
+        op = rng.choice([3] * 9 + [4] * 5 + [WITHIN[wait], WITHIN[wait], wait, DROPS[wait], 5, 6, 8, 9, 9, 0xa, 0xa, 0xb, 0xd, 0xf, 0x10, 0x11,
+                                             0x12, 0x12, 0x13, 0x14, 0x15, 0x16])
+        ids = [task.id for task in machine.kernel.slots if task is not None]
+        if op == 4:
+            switch()
+        elif op in (6, 9):
+            call(op, 0, rng.choice(ids))
+        elif op == 8:
+            call(op, 0, rng.randrange(4))
+        elif op == 0x12:
+            call(op, rng.choice([0, 2, 3, 4]))
+        elif op in (0xa, 0xb):
+            call(op, rng.randrange(2))
+        elif op in (0x15, 0x16):
+            call(op, rng.choice([k, k, rng.randrange(5)]), rng.choice([1, 1, 2, 2, 3, 5, 0, later()]))
+        elif op > 0xb and op < 0x12:
+            call(op, rng.choice([k, k, rng.randrange(4)]))
+        else:
+            call(op)
+    return b"\n".join(out)
 
 
 def queues(seed):
@@ -179,9 +329,14 @@ def queues(seed):
 
 
 if __name__ == "__main__":
+    if len(sys.argv) > 4 and sys.argv[1] == "late":
+        made = [limits(seed, model.LATE) for seed in range(int(sys.argv[2]), int(sys.argv[2]) + int(sys.argv[3]))]
+        against.compare(made, "tables", sys.argv[4:], model.LATE)
+        sys.exit()
     if len(sys.argv) < 7 or sys.argv[5] not in ("turns", "tables"):
         sys.exit(__doc__)
     first, lines, share, lists = int(sys.argv[1]), int(sys.argv[2]), float(sys.argv[3]), int(sys.argv[4])
     made = [make(seed, lines, share, sys.argv[5] == "tables") for seed in range(first, first + lists)]
     made += [queues(seed) for seed in range(first, first + 10 * lists)]
+    made += [kind(seed) for kind in (limits, ended) for seed in range(first, first + 10 * lists) if sys.argv[5] == "tables"]
     against.compare(made, sys.argv[5], sys.argv[6:])

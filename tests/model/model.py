@@ -1,11 +1,11 @@
 #!/usr/bin/env python3
-"""A model of document 01's step with document 02's W-201, following the words of documents 01 to 05. Its author had read the
-published Rust too.
+"""A model of document 01's step with document 02's W-201 and W-202, following the words of documents 01 to 05. Its author had read
+the published Rust too.
 
   model.py turns    standard input as `turns` reads it; prints what `turns` prints
   model.py tables   the same for `tables`, which has operations of its own: after each answer the table
-  model.py replay   lists of `tables` parted by `new`; prints as the reference does: tables without charges, the values
-                    of wake, release and signal as 0
+  model.py replay   lists of `tables` parted by `new`; prints as the reference does: tables without charges and limits,
+                    the values of wake, release and signal as 0
 
 Every refusal that a list from fresh can meet is there, and those that only other kernels can meet (6, 15, 18, 19) too."""
 import sys
@@ -15,6 +15,7 @@ SLOTS, OBJECTS, PLACES, SLICE = 16, 4, 8, 5
 PAINT = 0xDEADBEEF
 U32 = 0xFFFFFFFF
 U64 = 0xFFFFFFFFFFFFFFFF
+LATE = U64 - 12      # for tests of the last ticks: where a fresh kernel begins in them
 
 
 def ms_to_ticks(hz, ms):
@@ -42,7 +43,7 @@ def pick(states, priorities, current):
 
 class Task:
     __slots__ = ("id", "state", "priority", "wake_tick", "time_slice", "remaining",
-                 "owned", "waiter", "start", "size", "sp", "result")
+                 "owned", "waiter", "start", "size", "sp", "result", "limit", "ended")
 
     def __init__(self, id, priority, start, size, time_slice):
         self.id = id
@@ -57,6 +58,13 @@ class Task:
         self.size = size
         self.sp = start + size
         self.result = 0
+        self.limit = None       # kind, object and tick
+        self.ended = False      # whether the last limit to end was ended by its own tick
+
+    def end_limit(self, by_its_tick=False):
+        """Where there is none, nothing."""
+        if self.limit is not None:
+            self.limit, self.ended = None, by_its_tick
 
 
 class Mutex:
@@ -98,7 +106,9 @@ class Kernel:
         self.mutexes = [Mutex() for _ in range(OBJECTS)]
         self.semaphores = [Semaphore() for _ in range(OBJECTS)]
         self.events = [Event() for _ in range(OBJECTS)]
-        self.dropped, self.left = [], 0     # for tests: the states of the heads that release or signal dropped, how many ids stay
+        # For tests: the states of the heads that release or signal dropped, and how many ids stay; what a tick found.
+        self.dropped, self.left = [], 0
+        self.due, self.slept = [], []
         arena[0:2048] = [PAINT] * 2048
 
     # Help
@@ -114,17 +124,31 @@ class Kernel:
                 return at
         return None
 
-    def block_on(self, queue):
+    def own_blocked(self):
+        """Blocked, or Blocked once more."""
+        self.own().end_limit()
+        self.own().state = BLOCKED
+
+    def block_on(self, queue, limit=None):
+        """With a limit: kind, object and ticks."""
         id = self.own().id
         if id not in queue:
             queue.append(id)
-        self.own().state = BLOCKED
+        self.own_blocked()
+        if limit is not None:
+            kind, k, ticks = limit
+            self.own().limit = kind, k, min(self.tick_count + ticks, U64)
+
+    def queue_of(self, kind, k):
+        """Of a limit's object."""
+        return (self.semaphores if kind == "s" else self.events)[k].queue
 
     def wake_id(self, id):
         """Whether it turned a Blocked task Ready."""
         at = self.find(id)
         if at is None or self.slots[at].state != BLOCKED:
             return False
+        self.slots[at].end_limit()
         self.slots[at].state = READY
         return True
 
@@ -169,6 +193,7 @@ class Kernel:
     def turn(self, reload):
         self.current = self.next_task()
         task = self.own()
+        task.end_limit()
         task.state = RUNNING
         if reload and task.remaining == 0:
             task.remaining = task.time_slice
@@ -201,8 +226,19 @@ class Kernel:
         if self.started:
             self.charges[self.current] += 1
         woke = False
-        for task in self.slots:
-            if task is not None and task.state == SLEEPING and task.wake_tick <= self.tick_count:
+        for at, task in enumerate(self.slots):
+            if task is None:
+                continue
+            if task.state == SLEEPING and task.wake_tick <= self.tick_count:
+                task.state = READY
+                woke = True
+                self.slept.append(at)
+            if task.limit is not None and task.limit[2] <= self.tick_count:
+                queue = self.queue_of(*task.limit[:2])
+                self.due.append((at, *task.limit[:2], queue.index(task.id) if task.id in queue else None, len(queue)))
+                if task.id in queue:
+                    queue.remove(task.id)
+                task.end_limit(by_its_tick=True)
                 task.state = READY
                 woke = True
         if not self.started:
@@ -227,18 +263,20 @@ class Kernel:
             return 2, 0
         if state in (RUNNING, TERMINATED) or state > 5:
             return 7, 0
+        self.own().end_limit()
         self.own().state = state
         return 0, 0
 
     def block(self):
         if not self.started:
             return 2, 0
-        self.own().state = BLOCKED
+        self.own_blocked()
         return 0, 0
 
     def sleep_ticks(self, ticks):
         if not self.started:
             return 2, 0
+        self.own().end_limit()
         self.own().state = SLEEPING
         self.own().wake_tick = min(self.tick_count + ticks, U64)
         return 0, 0
@@ -257,6 +295,7 @@ class Kernel:
         task = self.own()
         if task.owned > 0:
             return 11, 0
+        task.end_limit()
         task.state = TERMINATED
         task.remaining = task.wake_tick = 0
         if task.waiter is not None:
@@ -279,7 +318,7 @@ class Kernel:
         if target.waiter is not None and target.waiter != own.id:
             return 9, 0
         target.waiter = own.id
-        own.state = BLOCKED
+        self.own_blocked()
         return 0, 0
 
     def empty(self, at):
@@ -369,18 +408,21 @@ class Kernel:
         mutex.locked, mutex.owner, mutex.handoff_to = False, None, None
         return 0, 0
 
-    def acquire(self, k):
+    def acquire(self, k, limit=None):
+        """With a limit in ticks, where one is given."""
         if k > 3:
             return 20, 0
         if not self.started:
             return 2, 0
+        if limit == 0:
+            return 7, 0
         semaphore = self.semaphores[k]
         if semaphore.count > 0:
             semaphore.count -= 1
             return 0, 1
         if self.would_overflow(semaphore.queue):
             return 12, 0
-        self.block_on(semaphore.queue)
+        self.block_on(semaphore.queue, limit and ("s", k, limit))
         return 0, 0
 
     def try_acquire(self, k):
@@ -401,18 +443,21 @@ class Kernel:
         semaphore.count += 1
         return 0, int(self.wake_head(semaphore.queue))
 
-    def event_wait(self, k):
+    def event_wait(self, k, limit=None):
+        """With a limit in ticks, where one is given."""
         if k > 3:
             return 20, 0
         if not self.started:
             return 2, 0
+        if limit == 0:
+            return 7, 0
         event = self.events[k]
         if event.signalled:
             event.signalled = False
             return 0, 1
         if self.would_overflow(event.queue):
             return 12, 0
-        self.block_on(event.queue)
+        self.block_on(event.queue, limit and ("e", k, limit))
         return 0, 0
 
     def signal(self, k):
@@ -443,7 +488,13 @@ class Kernel:
 
     # Printing
 
-    def table(self, charges=True):
+    def limits(self):
+        """The last segment of the table."""
+        show = lambda limit: ",".join(map(str, limit or "---"))
+        return ";".join(f"{at},{show(t.limit)},{int(t.ended)}" for at, t in enumerate(self.slots) if t is not None)
+
+    def table(self, all=True):
+        """All of it, or the part that the Rust has."""
         dash = lambda id: "-" if id is None else str(id)
         queue = lambda ids: "[" + " ".join(map(str, ids)) + "]"
         parts = [";".join(
@@ -457,8 +508,8 @@ class Kernel:
             for m in self.mutexes))
         parts.append(" ".join(f"{s.count},{queue(s.queue)};" for s in self.semaphores))
         parts.append(" ".join(f"{int(e.signalled)},{queue(e.queue)};" for e in self.events))
-        if charges:
-            parts.append(",".join(map(str, self.charges)))
+        if all:
+            parts += [",".join(map(str, self.charges)), self.limits()]
         return " | ".join(parts)
 
 
@@ -498,6 +549,8 @@ TURNS = {
 }
 TABLES = {
     **TURNS,
+    0x15: ("ky", lambda machine, k, y: machine.kernel.acquire(k, y)),
+    0x16: ("ky", lambda machine, k, y: machine.kernel.event_wait(k, y)),
     0x1B: ("k", lambda machine, k, y: machine.list(k)),
     0x1C: ("", lambda machine, k, y: machine.kernel.current_id()),
     0x1D: ("ky", lambda machine, k, y: machine.kernel.result(y, k - 256 if k >= 128 else k)),
@@ -509,15 +562,17 @@ TABLES = {
 class Machine:
     """What is under `turns` or `tables`: a line in, an answer out."""
 
-    def __init__(self, tables):
+    def __init__(self, tables, tick=0):
+        """Tick: with which tick_count a fresh kernel begins, for tests of the last ticks."""
         self.operations = TABLES if tables else TURNS
-        self.arena = [0] * 4096
+        self.arena, self.tick = [0] * 4096, tick
         self.fresh(1000)
 
     def fresh(self, hz):
         number, kernel = fresh(hz, self.arena)
         if number == 0:
             self.kernel = kernel
+            kernel.tick_count = self.tick
         return number, 0
 
     def list(self, lent):
@@ -536,9 +591,10 @@ class Machine:
 
     def step(self, line):
         """(operation, number, value) of a line, its line feed off; no operation where it is not 12 digits. What is
-        appended to the answer is in self.appended, and what a release or signal dropped in self.kernel.dropped."""
+        appended to the answer is in self.appended, what a release or signal dropped in self.kernel.dropped, what a tick found in
+        self.kernel.due and self.kernel.slept."""
         self.appended = ""
-        self.kernel.dropped = []
+        self.kernel.dropped, self.kernel.due, self.kernel.slept = [], [], []
         if len(line) != 12 or not DIGITS.issuperset(line):
             return None, 0xFF, 0
         op, k, y = int(line[0:2], 16), int(line[2:4], 16), int(line[4:12], 16)
@@ -562,21 +618,56 @@ def lines_of(data):
     return lines
 
 
-def run(data, tables, out):
-    """Appends what `turns` or `tables` prints, line by line. Gives the pairs of operation and number that were met, and of each
-    release and signal that dropped heads the operation, their states (EMPTY for one that is gone) and how many ids stay queued."""
-    machine, table, met, drops = Machine(tables), None, set(), set()
+def limits_met(current, before, kernel, op, k, answer):
+    """What a call did to limits, as tuples; see LIMITS in tests/adversarial/run. Before it: current, and of each slot id, limit and mark."""
+    for at, (id, limit, mark) in before.items():
+        task, blocked_anew = kernel.slots[at], at == current and op in (0x15, 0x16) and answer == (0, 0)
+        if task is None or task.id != id:
+            continue
+        if blocked_anew and task.limit[2] == U64:
+            yield "held", task.limit[0]
+        if limit is None:
+            if blocked_anew:
+                yield "begun", op, mark
+        elif blocked_anew:
+            yield "ended and begun", limit[0], mark, op
+        elif task.limit is None and task.ended:
+            yield "ended by its tick", limit[0], mark
+        elif task.limit is None:
+            yield "ended otherwise", limit[0], mark, op, k if op == 0x12 else "current's" if at == current else "another's"
+        elif at == current:
+            yield "left", op, answer[0]
+    runs, places = kernel.own().state == RUNNING, [(kind, k) for _, kind, k, _, _ in kernel.due]
+    for at, kind, _, place, length in kernel.due:
+        yield "place", kind, place, length
+        if kernel.tick_count == U64:
+            yield "last tick", kind
+        yield "tick", kind, "idle's" if at == 0 else "current's" if at == kernel.current else "another's", runs
+        yield "tick", kind, "with a sleeper" if kernel.slept else "with no sleeper", runs
+    if places:
+        yield "tick", "several of one queue" if len(set(places)) < len(places) else "several" if len(places) > 1 else "one", runs
+
+
+def run(data, tables, out, tick=0):
+    """Appends what `turns` or `tables` prints, line by line. Gives the pairs of operation and number that were met; of each
+    release and signal that dropped heads the operation, their states (EMPTY for one that is gone) and how many ids stay queued; and
+    what was done to limits."""
+    machine, table, met, drops, limits = Machine(tables, tick), None, set(), set(), set()
     for line in lines_of(data):
+        kernel = machine.kernel
+        current, before = kernel.current, {at: (t.id, t.limit, t.ended) for at, t in enumerate(kernel.slots) if t is not None} if tables else {}
         op, number, value = machine.step(line)
         met.add((op, number))
         if machine.kernel.dropped:
             drops.add((op, tuple(machine.kernel.dropped), machine.kernel.left))
+        if kernel is machine.kernel:
+            limits.update(limits_met(current, before, kernel, op, None if op is None else int(line[2:4], 16), (number, value)))
         out.append(machine.answer(number, value))
         if tables:
             if number == 0 or table is None:    # a refusal alters nothing
                 table = machine.kernel.table() + "\n"
             out.append(table)
-    return met, drops
+    return met, drops, limits
 
 
 def replay(data, out):
@@ -588,7 +679,7 @@ def replay(data, out):
             continue
         op, number, value = machine.step(line)
         out.append(machine.answer(number, 0 if op in (0x09, 0x0F, 0x11) else value))
-        out.append(machine.kernel.table(charges=False) + "\n")
+        out.append(machine.kernel.table(all=False) + "\n")
 
 
 class Out:

@@ -9,11 +9,11 @@ use Rattle.base.specs.Below.{allBelow, anyBelow, countBelow, lowestBelow}
 use Rattle.kernel.specs.declared.wait_queue.WaitQueue.{WaitQueue}
 use Rattle.kernel.specs.declared.scheduler.Kernel.{Kernel}
 use Rattle.kernel.specs.declared.control.TaskState.the-variants.{Running}
-use Rattle.kernel.specs.Update.{withState, withRemaining, withTickCount, withStarted, withCurrent, withTaskCount, withNextId}
-use Rattle.kernel.specs.Control.{stateNumber, holdsTask, newTask, regionFits}
+use Rattle.kernel.specs.Update.{withRemaining, withTickCount, withStarted, withCurrent, withTaskCount, withNextId}
+use Rattle.kernel.specs.Control.{stateNumber, holdsTask, newTask, regionFits, entered}
 use Rattle.kernel.specs.WaitQueue.{emptyQueue, position, pushed, enqueued}
 use Rattle.kernel.specs.Kernel.{at, currentTask, withSemaphore, arenaFits, whole, freshKernel}
-use Rattle.kernel.specs.Scheduler.{isBest, pick, isDue, woken, advanced, wantsSwitch}
+use Rattle.kernel.specs.Scheduler.{isBest, pick, isDue, isLimitDue, woken, visited, walked, clocked, advanced, wantsSwitch}
 use Rattle.kernel.specs.Scheduler
 use Rattle.kernel.specs.Semaphore
 use Rattle.kernel.specs.Timer.{msToTicks}
@@ -50,7 +50,7 @@ priorities (e ∷ es) = set (priorities es) (e .slot) (e .priority)
 
 -- a started kernel in which task 1 runs in slot 1
 running : Kernel
-running = withStarted true (withCurrent 1 (withTaskCount 2 (withNextId 2 (at 1 (λ _. withState Running (newTask (record { 0 = 1 }) (record { 0 = 128 }) (record { start = 8192; size = 1024 }))) (freshKernel 1000 4096)))))
+running = withStarted true (withCurrent 1 (withTaskCount 2 (withNextId 2 (at 1 (λ _. entered Running (newTask (record { 0 = 1 }) (record { 0 = 128 }) (record { start = 8192; size = 1024 }))) (freshKernel 1000 4096)))))
 
 line : ℕ → ℕ → WaitQueue
 line first zero = emptyQueue
@@ -108,5 +108,5 @@ pub wanted : Case → List ℕ
 wanted c = c .right
 
 pub exam : map given cases ≡ map wanted cases
-unfolding given wanted cases answer idle ready states priorities running line after if_then_else_ every allBelow anyBelow countBelow lowestBelow holdsTask regionFits position pushed enqueued arenaFits whole freshKernel isBest pick isDue woken advanced Scheduler.sliced Scheduler.wants wantsSwitch Scheduler.tick Semaphore.acquire msToTicks number value effect step valueNumber pickBytes
+unfolding given wanted cases answer idle ready states priorities running line after if_then_else_ every allBelow anyBelow countBelow lowestBelow holdsTask regionFits position pushed enqueued arenaFits whole freshKernel isBest pick isDue isLimitDue woken visited walked clocked advanced Scheduler.sliced Scheduler.wants wantsSwitch Scheduler.tick Semaphore.acquire msToTicks number value effect step valueNumber pickBytes
 exam = refl

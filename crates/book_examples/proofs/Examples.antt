@@ -7,7 +7,7 @@ use Rattle.base.specs.Below.{allBelow, anyBelow, countBelow, lowestBelow}
 use Rattle.kernel.specs.declared.scheduler.Kernel.{Kernel}
 use Rattle.kernel.specs.Control.{holdsTask, regionFits, regionsOverlap, painted, stackGuardOk, spInRange}
 use Rattle.kernel.specs.Kernel.{arenaFits, whole, freshKernel, slotOf}
-use Rattle.kernel.specs.Scheduler.{isBest, pick, lowestEmpty, overlapsPresent, isDue, woken, advanced, sliced, wants, wantsSwitch, contextSaved, reloaded}
+use Rattle.kernel.specs.Scheduler.{isBest, pick, lowestEmpty, overlapsPresent, isDue, isLimitDue, woken, visited, walked, clocked, advanced, sliced, wants, wantsSwitch, contextSaved, reloaded}
 use Rattle.kernel.specs.Scheduler
 use Rattle.kernel.specs.Calls.{Call, number, value, effect, valueNumber, step, init, initNumber}
 use Rattle.book_guarantees.specs.Lists.{Returned, outcomeOf, outcome, sum}
@@ -17,7 +17,7 @@ use Rattle.book_examples.specs.Examples.{run, arena, id, unpainted, mixe
 use Rattle.book_examples.proofs.Checked.{stretch-is, peer-is}
 
 pub examples : Examples
-unfolding arena unpainted painted mixed mixed-calls two-tasks idle-round late-switch smaller-number first-sleeps not-neighbours other-sleeps other-priority outcome outcomeOf step number value effect valueNumber init initNumber freshKernel whole arenaFits if_then_else_ every allBelow anyBelow countBelow lowestBelow holdsTask regionFits regionsOverlap stackGuardOk spInRange slotOf isBest pick lowestEmpty overlapsPresent isDue woken advanced sliced wants wantsSwitch contextSaved reloaded Scheduler.add Scheduler.start Scheduler.tick Scheduler.switch sum
+unfolding arena unpainted painted mixed mixed-calls two-tasks idle-round late-switch smaller-number first-sleeps not-neighbours other-sleeps other-priority outcome outcomeOf step number value effect valueNumber init initNumber freshKernel whole arenaFits if_then_else_ every allBelow anyBelow countBelow lowestBelow holdsTask regionFits regionsOverlap stackGuardOk spInRange slotOf isBest pick lowestEmpty overlapsPresent isDue isLimitDue woken visited walked clocked advanced sliced wants wantsSwitch contextSaved reloaded Scheduler.add Scheduler.start Scheduler.tick Scheduler.switch sum
 examples = record {
   refused = refl;
   mixed-fresh = refl;

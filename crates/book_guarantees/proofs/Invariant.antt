@@ -8,7 +8,7 @@ use Prim.Native.Nat.{ℕ, zero, suc, _+_, _-_, max, _≤_, _<_}
 use native.Mathlib.Decide.{ℕ-discrete}
 use native.Mathlib.Omega.{arith}
 use lib.Dec.{eqb}
-use lib.ListN.{getD, set, length, replicate, length-set, length-map}
+use lib.ListN.{getD, set, length, replicate, length-set}
 use lib.Seq.{getD-set-same, getD-set-other}
 use borrow.Author.Tests.{eqb-true, eqb-false}
 use Rattle.base.specs.Choice.{if_then_else_}
@@ -19,15 +19,16 @@ use Rattle.kernel.specs.declared.control.TaskControl.{TaskControl}
 use Rattle.kernel.specs.declared.control.TaskState.the-variants.{Ready}
 use Rattle.kernel.specs.declared.scheduler.Kernel.{Kernel}
 use Rattle.kernel.specs.Update.{withRemaining}
-use Rattle.kernel.specs.Control.{stateNumber, holdsTask, blankSlot}
+use Rattle.kernel.specs.Control.{stateNumber, holdsTask, hasLimit, blankSlot}
 use Rattle.kernel.specs.Kernel.{slot, charge, at, current, currentTask, freshKernel}
-use Rattle.kernel.specs.Scheduler.{pick, isReady, priorityOf, nextTask, isDue, woken, spent, advanced, currentRuns, sliced, wants, wantsSwitch, dispatched, contextSaved, reloaded, saveContext}
+use Rattle.kernel.specs.Scheduler.{pick, isReady, priorityOf, nextTask, isDue, isLimitDue, woken, spent, clocked, advanced, currentRuns, sliced, wants, wantsSwitch, dispatched, contextSaved, reloaded, saveContext}
 use Rattle.kernel.specs.Scheduler
 use Rattle.kernel.specs.Calls.{Kind, plain, ticking, initNumber}
 use Rattle.kernel.proofs.Pick.{pick-lt}
-use Rattle.kernel.proofs.Tasks.{woken-slot}
-use Rattle.kernel.proofs.Changes.{same, state, saved, charged, Changes, carry, SlotChange, by}
-use Rattle.kernel.proofs.Owned.{Sound, fresh-sound, change-sound}
+use Rattle.kernel.proofs.Unlimited.{woken-ahead}
+use Rattle.kernel.proofs.Walk.{walked-beside, walked-before}
+use Rattle.kernel.proofs.Changes.{same, state, passed, saved, charged, Changes, carry, SlotChange, by}
+use Rattle.kernel.proofs.Owned.{Sound, empty-table, fresh-sound, change-sound}
 use Rattle.book_guarantees.specs.Turns.{PickedBy}
 use Rattle.book_guarantees.proofs.BestFirst.{clash, Rather, pick-is}
 use Rattle.book_guarantees.proofs.Fairness.{runs, Live, allowance, budget, some-tick, Tick, Other, Turn}
@@ -47,11 +48,6 @@ pub record Invariant (k : Kernel) : Type 0 where
 
 pub invariant-kept : {g : Kind} {k k′ : Kernel} → Changes g k k′ → Invariant k → length (k′ .charges) ≡ length (k .charges) → OnlyCurrent k′ → Invariant k′
 invariant-kept {g} cs i l r = record { sound = carry Sound (change-sound g) cs (i .sound); charges = l ∙ i .charges; slices = λ j. slices-kept cs j (i .slices j); running = r }
-
-empty-table : (n j : ℕ) → getD (replicate n blankSlot) j blankSlot ≡ blankSlot
-empty-table zero j = refl
-empty-table (suc n) zero = refl
-empty-table (suc n) (suc j) = empty-table n j
 
 pub fresh-invariant : (hz words : ℕ) → initNumber hz words ≡ 0 → Invariant (freshKernel hz words)
 unfolding freshKernel
@@ -91,7 +87,7 @@ slot-runs t u (by c) = task-kept c .running
 
 woken-kept : (now : ℕ) (t : TaskControl) → TaskKept plain t (woken now t)
 unfolding woken
-woken-kept now t = either (TaskKept plain t) (isDue now t) (λ _. task-kept (state Ready refl)) (λ _. task-kept same)
+woken-kept now t = either (TaskKept plain t) (isLimitDue now t) (λ _. task-kept passed) (λ _. either (TaskKept plain t) (isDue now t) (λ _. task-kept (state Ready refl)) (λ _. task-kept same))
 
 -- a started kernel's tick that wants no switch
 none-wanted : (s c w d : Bool) → s ≡ true → (if not s then false else if not c then true else (w || d)) ≡ false → (c ≡ true) × (d ≡ false)
@@ -108,10 +104,33 @@ spent-falls t u h r d =
     let n = eqb-false (u .«remaining_slice» - 1) 0 d in
     rw (← left _ _ _ v d refl) (omega (arith, while-running v r, while-running t (h .running r), h .remaining tt, n))
 
+-- a limit that the task has ends after now
+abbrev pub LimitAhead : ℕ → TaskControl → Type 0
+LimitAhead now t = t .occupied ≡ true → hasLimit t ≡ true → now < t .«limit_tick»
+
+spent-ahead : {now : ℕ} (t : TaskControl) → LimitAhead now t → LimitAhead now (spent t)
+spent-ahead {now} t h = either (LimitAhead now) (eqb (t .«remaining_slice» - 1) 0) (λ _. h) (λ _. h)
+
 module _ (k : Kernel) where
+  advanced-still : (current (advanced k) ≡ current k) × (advanced k .started ≡ k .started) × (advanced k .charges ≡ charged k)
+  unfolding advanced clocked
+  advanced-still = let f = walked-beside (k .«tick_count» + 1) 16 k .form in (ap (λ (x : Kernel). current x) f, ap (λ (x : Kernel). x .started) f, ap (λ (x : Kernel). charged x) f)
+
   still : (current (Scheduler.tick k) ≡ current k) × (Scheduler.tick k .started ≡ k .started) × (Scheduler.tick k .charges ≡ charged k)
-  unfolding Scheduler.tick sliced advanced
-  still = either (λ (x : Kernel). (current x ≡ current k) × (x .started ≡ k .started) × (x .charges ≡ charged k)) (k .started && currentRuns (advanced k)) (λ _. (refl, refl, refl)) (λ _. (refl, refl, refl))
+  unfolding Scheduler.tick sliced
+  still = either (λ (x : Kernel). (current x ≡ current k) × (x .started ≡ k .started) × (x .charges ≡ charged k)) (advanced k .started && currentRuns (advanced k)) (λ _. advanced-still) (λ _. advanced-still)
+
+  -- tick_count rises by one, and every limit lies ahead then
+  pub tick-clock : Scheduler.tick k .«tick_count» ≡ k .«tick_count» + 1
+  unfolding Scheduler.tick sliced advanced clocked
+  tick-clock = let up = ap (λ (x : Kernel). x .«tick_count» + 1) (walked-beside (k .«tick_count» + 1) 16 k .form) in either (λ (x : Kernel). x .«tick_count» ≡ k .«tick_count» + 1) (advanced k .started && currentRuns (advanced k)) (λ _. up) (λ _. up)
+
+  pub tick-ahead : (j : ℕ) → j < 16 → LimitAhead (k .«tick_count» + 1) (slot (Scheduler.tick k) j)
+  unfolding Scheduler.tick sliced advanced clocked
+  tick-ahead =
+      let walked-ahead : (j : ℕ) → j < 16 → LimitAhead (k .«tick_count» + 1) (slot (advanced k) j) = λ j h. rw (walked-before (k .«tick_count» + 1) 16 k j h) (woken-ahead (k .«tick_count» + 1) (slot k j)) in
+      either (λ (x : Kernel). (j : ℕ) → j < 16 → LimitAhead (k .«tick_count» + 1) (slot x j)) (advanced k .started && currentRuns (advanced k))
+      (λ _. set-each (λ j t. j < 16 → LimitAhead (k .«tick_count» + 1) t) blankSlot (advanced k .tasks) (current (advanced k)) _ (λ h. spent-ahead (currentTask (advanced k)) (walked-ahead (current (advanced k)) h)) walked-ahead) (λ _. walked-ahead)
 
   pub tick-started : Scheduler.tick k .started ≡ k .started
   tick-started = still .1
@@ -130,24 +149,28 @@ module _ (k : Kernel) where
         (λ q. rw (← eqb-true c j q) (getD-set-same (k .charges) c n 0 (omega (arith, i .charges, i .sound .is .current-slot))))
         (λ q. rw (getD-set-other (k .charges) c j n 0 (λ e. eqb-false c j q (sym e))) (omega arith))
 
-    -- the current task once the sleepers that are due are Ready
+    -- the current task once the slots are walked
     abbrev t : TaskControl
     t = currentTask (advanced k)
 
     advanced-kept : TaskKept plain (currentTask k) t
-    unfolding advanced
-    advanced-kept = rw (woken-slot (k .«tick_count» + 1) (k .tasks) (current k)) (woken-kept (k .«tick_count» + 1) (currentTask k))
+    unfolding advanced clocked
+    advanced-kept = rw (ap (λ (x : Kernel). current x) (walked-beside (k .«tick_count» + 1) 16 k .form), walked-before (k .«tick_count» + 1) 16 k (current k) (i .sound .is .current-slot)) (woken-kept (k .«tick_count» + 1) (currentTask k))
 
     -- it runs on, and its slice does not end
     unwanted : wantsSwitch k ≡ false → (runs t ≡ true) × (eqb (t .«remaining_slice» - 1) 0 ≡ false)
-    unfolding wantsSwitch wants advanced
-    unwanted e = none-wanted (k .started) (runs t) (anyBelow (λ j. isDue (k .«tick_count» + 1) (slot k j)) 16) (eqb (t .«remaining_slice» - 1) 0) on e
+    unfolding wantsSwitch wants
+    unwanted e = none-wanted (advanced k .started) (runs t) (anyBelow (λ j. isLimitDue (k .«tick_count» + 1) (slot k j) || isDue (k .«tick_count» + 1) (slot k j)) 16) (eqb (t .«remaining_slice» - 1) 0) (advanced-still .1 ∙ on) e
+
+    advanced-size : length (advanced k .tasks) ≡ length (k .tasks)
+    unfolding advanced clocked
+    advanced-size = walked-beside (k .«tick_count» + 1) 16 k .tasks
 
     tick-current : runs t ≡ true → currentTask (Scheduler.tick k) ≡ spent t
-    unfolding Scheduler.tick sliced advanced
+    unfolding Scheduler.tick sliced
     tick-current r =
-        ap currentTask (sym (taken (k .started && runs t) (at (current k) spent (advanced k)) (advanced k) _ (rw (on, r)) refl))
-        ∙ getD-set-same (advanced k .tasks) (current k) (spent t) blankSlot (omega (arith, length-map (k .tasks) (woken (k .«tick_count» + 1)), i .sound .owned .slots, i .sound .is .current-slot))
+        ap currentTask (sym (taken (advanced k .started && runs t) (at (current (advanced k)) spent (advanced k)) (advanced k) _ (ap (λ (b : Bool). b && runs t) (advanced-still .1 ∙ on) ∙ r) refl))
+        ∙ getD-set-same (advanced k .tasks) (current (advanced k)) (spent t) blankSlot (omega (arith, advanced-size, advanced-still .0, i .sound .owned .slots, i .sound .is .current-slot))
 
     pub tick-tick : Tick k (wantsSwitch k) (Scheduler.tick k)
     tick-tick = record { stay = still .0; fall = λ e. let f = unwanted e in rw (tick-current (f .0)) (spent-falls (currentTask k) t advanced-kept (f .0) (f .1)) }

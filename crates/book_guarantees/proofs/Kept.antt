@@ -13,7 +13,7 @@ use Rattle.kernel.specs.Kernel.{slot, current}
 use Rattle.kernel.specs.Scheduler.{contextSaved, reloaded}
 use Rattle.kernel.specs.Scheduler
 use Rattle.kernel.specs.Calls.{Kind, adding, reaping, starting, switching, ticking, owning, plain}
-use Rattle.kernel.proofs.Changes.{TaskChange, same, state, asleep, ended, waiter, answered, less, full, saved, Change, task, sweep, clock, permits, flag, handoff, owner, added, reaped, begun, turned, Changes, fold, SlotChange, by, counted, new, cleared, run-first, run-next, each-slot}
+use Rattle.kernel.proofs.Changes.{TaskChange, same, state, asleep, ended, waiter, answered, passed, less, full, saved, Change, task, begins, clock, permits, flag, handoff, owner, added, reaped, begun, turned, Changes, fold, SlotChange, by, limited, counted, new, cleared, run-first, run-next, each-slot}
 use Rattle.book_guarantees.proofs.BestFirst.{clash}
 use Rattle.book_guarantees.proofs.Fairness.{runs}
 
@@ -50,6 +50,7 @@ task-kept (asleep n) = less-left refl refl refl (le-refl _) (λ e. clash e refl)
 task-kept ended = less-left refl refl refl (omega arith) (λ e. clash e refl)
 task-kept (waiter a) = less-left refl refl refl (le-refl _) (λ e. e)
 task-kept (answered r) = less-left refl refl refl (le-refl _) (λ e. e)
+task-kept passed = less-left refl refl refl (le-refl _) (λ e. clash e refl)
 task-kept (less n h) = less-left refl refl refl h (λ e. e)
 task-kept full = record { occupied = refl; priority = refl; slices = λ f. (f .0, f .0); running = λ e. e; remaining = λ x. absurd x }
 task-kept (saved {t = t} sp) = either (TaskKept switching t) (runs t) (λ _. less-left refl refl refl (le-refl _) (λ e. clash e refl)) (λ _. less-left refl refl refl (le-refl _) (λ e. e))
@@ -66,6 +67,7 @@ each-kept T r t f cs j = fold (λ k k′. T (slot k j) (slot k′ j)) (λ k. r _
 
 slot-fits : {g : Kind} (t u : TaskControl) → SlotChange g t u → SliceFits t → SliceFits u
 slot-fits t u (by c) f = task-kept c .slices f
+slot-fits t u (limited o n b g) f = f
 slot-fits t u (counted n) f = f
 slot-fits t u (new a p r e) f = omega arith
 slot-fits t u (cleared e) f = omega arith
@@ -103,6 +105,7 @@ stay-priority false t u s o p = s o .1
 
 slot-stays : {g : Kind} (t u : TaskControl) → SlotChange g t u → Stay (reaps g) t u
 slot-stays {g} t u (by c) = stay (reaps g) t u (task-kept c .occupied) (task-kept c .priority)
+slot-stays t u (limited o n b f) = λ o. (o, refl)
 slot-stays t u (counted n) = λ o. (o, refl)
 slot-stays t u (new a p r e) = λ o. clash o e
 slot-stays t u (cleared e) = λ o. clash o refl
@@ -118,23 +121,24 @@ pub record Kept (k k′ : Kernel) : Type 0 where
   pub stay : current k′ ≡ current k
   pub on : k′ .started ≡ k .started
   pub charges : k′ .charges ≡ k .charges
+  pub clock : k′ .«tick_count» ≡ k .«tick_count»
 
 change-kept : {g : Kind} → IsOther g → (k k′ : Kernel) → Change g k k′ → Kept k k′
 unfolding Scheduler.add
-change-kept x k k′ (task i u h c) = record { stay = refl; on = refl; charges = refl }
-change-kept x k k′ (sweep f e h) = absurd x
-change-kept x k k′ clock = absurd x
-change-kept x k k′ (permits s n q h c) = record { stay = refl; on = refl; charges = refl }
-change-kept x k k′ (flag v n q h c) = record { stay = refl; on = refl; charges = refl }
-change-kept x k k′ (handoff m h q l c) = record { stay = refl; on = refl; charges = refl }
-change-kept x k k′ (owner m l from to h q r d c) = record { stay = refl; on = refl; charges = refl }
-change-kept x k k′ (added p r free region) = record { stay = refl; on = refl; charges = refl }
-change-kept x k k′ (reaped i h idle running on) = record { stay = refl; on = refl; charges = refl }
+change-kept x k k′ (task i u h c) = record { stay = refl; on = refl; charges = refl; clock = refl }
+change-kept x k k′ (begins o n h b f p s) = record { stay = refl; on = refl; charges = refl; clock = refl }
+change-kept x k k′ (clock l a) = absurd x
+change-kept x k k′ (permits s n q h c) = record { stay = refl; on = refl; charges = refl; clock = refl }
+change-kept x k k′ (flag v n q h c) = record { stay = refl; on = refl; charges = refl; clock = refl }
+change-kept x k k′ (handoff m h q l c) = record { stay = refl; on = refl; charges = refl; clock = refl }
+change-kept x k k′ (owner m l from to h q r d c) = record { stay = refl; on = refl; charges = refl; clock = refl }
+change-kept x k k′ (added p r free region) = record { stay = refl; on = refl; charges = refl; clock = refl }
+change-kept x k k′ (reaped i h idle running on) = record { stay = refl; on = refl; charges = refl; clock = refl }
 change-kept x k k′ (begun y h o) = absurd x
 change-kept x k k′ (turned y h o) = absurd x
 
 pub kept : {g : Kind} {k k′ : Kernel} → IsOther g → Changes g k k′ → Kept k k′
-kept x = fold Kept (λ _. record { stay = refl; on = refl; charges = refl }) (λ _ _ _ p q. record { stay = q .stay ∙ p .stay; on = q .on ∙ p .on; charges = q .charges ∙ p .charges }) (change-kept x)
+kept x = fold Kept (λ _. record { stay = refl; on = refl; charges = refl; clock = refl }) (λ _ _ _ p q. record { stay = q .stay ∙ p .stay; on = q .on ∙ p .on; charges = q .charges ∙ p .charges; clock = q .clock ∙ p .clock }) (change-kept x)
 
 -- u runs only if t does, and has no more ticks left
 abbrev pub NoLonger : TaskControl → TaskControl → Type 0
@@ -142,6 +146,7 @@ NoLonger t u = runs u ≡ true → (runs t ≡ true) × (u .«remaining_slice» 
 
 slot-no-longer : {g : Kind} → IsOther g → (t u : TaskControl) → SlotChange g t u → NoLonger t u
 slot-no-longer x t u (by c) = λ e. (task-kept c .running e, task-kept c .remaining x)
+slot-no-longer x t u (limited o n b f) = λ e. (e, le-refl _)
 slot-no-longer x t u (counted n) = λ e. (e, le-refl _)
 slot-no-longer x t u (new a p r o) = λ e. clash e refl
 slot-no-longer x t u (cleared o) = λ e. clash e refl

@@ -6,3 +6,4 @@ pub mod Kept
 pub mod Invariant
 pub mod TurnGuarantee
 pub mod Wakings
+pub mod Limits

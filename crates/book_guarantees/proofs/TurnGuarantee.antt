@@ -20,25 +20,29 @@ use Rattle.kernel.specs.Control.{blankSlot}
 use Rattle.kernel.specs.Kernel.{slot, charge, current}
 use Rattle.kernel.specs.Scheduler.{priorityOf, wantsSwitch}
 use Rattle.kernel.specs.Scheduler
-use Rattle.kernel.specs.Calls.{Call, add, start, switch, current-id, status, block, sleep, wake, exit, wait, reap, reap-one, result, lock, try-lock, unlock, acquire, try-acquire, release, event-wait, signal, list, Kind, plain, kind, number, value, effect, valueNumber, step, init, initNumber}
+use Rattle.kernel.specs.Calls.{Call, add, start, switch, current-id, status, block, sleep, wake, exit, wait, reap, reap-one, result, lock, try-lock, unlock, acquire, acquire-within, try-acquire, release, event-wait, event-wait-within, signal, list, Kind, plain, kind, number, value, effect, valueNumber, step, init, initNumber, Reached}
 use Rattle.kernel.specs.Calls
 use Rattle.kernel.proofs.Accepted.{start-off, switch-on}
 use Rattle.kernel.proofs.Pick.{pick-lt}
 use Rattle.kernel.proofs.Changes.{Changes, none}
 use Rattle.kernel.proofs.MadeOf.{made-of}
-use Rattle.kernel.proofs.Reached.{init-kernel}
+use Rattle.kernel.proofs.Reached.{init-kernel, reached}
 use Rattle.book_guarantees.specs.Lists.{Entry, after, Each, EachNext, Returned, end, Outcome, turn, tick, other, outcomeOf, outcome, AcceptedSwitch, turns, tickOf, ticksWhile, sum}
+use Rattle.book_guarantees.specs.Limits
 use Rattle.book_guarantees.specs.Turns.{Holds, Stays, Peer, Unchanging, Bounded, TurnGuarantee, PickedBy, TurnGuaranteeBy}
 use Rattle.book_guarantees.proofs.BestFirst.{clash}
 use Rattle.book_guarantees.proofs.Fairness.{IsTurn, answered, Step, Steps, At, each-at, fair}
 use Rattle.book_guarantees.proofs.Kept.{IsOther, priority-kept, kept}
-use Rattle.book_guarantees.proofs.Invariant.{Invariant, invariant-kept, fresh-invariant, five-ticks, other-invariant, other-step, tick-started, tick-invariant, tick-account, tick-tick, by-priority, switch-only, switch-turn, start-only}
+use Rattle.book_guarantees.proofs.Invariant.{Invariant, invariant-kept, fresh-invariant, five-ticks, other-invariant, other-step, LimitAhead, tick-clock, tick-ahead, tick-started, tick-invariant, tick-account, tick-tick, by-priority, switch-only, switch-turn, start-only}
 
 no-turn : {A : Type 0} {s : ℕ} → other ≡ turn s → A
 no-turn q = let y : _≡_ {A = ℕ} 0 1 = cc in let o : ⊥ = omega (arith, y) in absurd o
 
 tick-no-turn : {A : Type 0} {s : ℕ} {w : Bool} → tick w ≡ turn s → A
 tick-no-turn q = let y : _≡_ {A = ℕ} 0 1 = cc in let o : ⊥ = omega (arith, y) in absurd o
+
+no-tick : {A : Type 0} {w : Bool} → other ≡ tick w → A
+no-tick q = let y : _≡_ {A = ℕ} 0 1 = cc in let o : ⊥ = omega (arith, y) in absurd o
 
 same-turn : {s t : ℕ} → s < 16 → turn s ≡ turn t → (s ≡ t) × (t < 16)
 same-turn {s} {t} h e = let q : s ≡ t = cc in (q, omega (arith, q))
@@ -55,13 +59,16 @@ yes-or-no false = refl
 
 module _ (rank : Kernel → ℕ → ℕ) where
   -- what an outcome v that leads from k to k′ is
-  record Fact (k : Kernel) (v : Outcome) (k′ : Kernel) : Type 0 where
-    invariant : Invariant k′
+  pub record Fact (k : Kernel) (v : Outcome) (k′ : Kernel) : Type 0 where
+    pub invariant : Invariant k′
     on : k .started ≡ true → k′ .started ≡ true
     step : k .started ≡ true → Step rank k v k′
     account : k .started ≡ true → (j : ℕ) → charge k′ j ≡ charge k j + tickOf j k v
     begun : (s : ℕ) → v ≡ turn s → (current k′ ≡ s) × (s < 16) × (k′ .started ≡ true)
     priority : (j : ℕ) → slot k j .occupied ≡ true → slot k′ j .occupied ≡ true → priorityOf k′ j ≡ priorityOf k j
+    -- tick_count rises by the accepted ticks, and with such a tick every limit lies ahead
+    pub clock : k′ .«tick_count» ≡ k .«tick_count» + Limits.tickOf v
+    pub ahead : (w : Bool) → v ≡ tick w → (j : ℕ) → j < 16 → LimitAhead (k′ .«tick_count») (slot k′ j)
 
   same-priority : {g : Kind} {k k′ : Kernel} → Changes g k k′ → (j : ℕ) → slot k j .occupied ≡ true → slot k′ j .occupied ≡ true → priorityOf k′ j ≡ priorityOf k j
   same-priority cs j o p = ap (λ x. x .0) (priority-kept cs j o p)
@@ -74,6 +81,8 @@ module _ (rank : Kernel → ℕ → ℕ) where
     account = λ _ j. same-charge (kept x cs .charges) j;
     begun = λ s e. no-turn e;
     priority = same-priority cs;
+    clock = omega (arith, kept x cs .clock);
+    ahead = λ w e. no-tick e;
   }
 
   module _ (p : PickedBy rank) where
@@ -89,6 +98,8 @@ module _ (rank : Kernel → ℕ → ℕ) where
           account = λ _ j. omega arith;
           begun = λ s e. let q = same-turn (pick-lt _ _ _) e in (q .0, q .1, refl);
           priority = same-priority cs;
+          clock = omega arith;
+          ahead = λ w e. tick-no-turn (sym e);
         }
     accepted-fact k Calls.tick i m cs = record {
       invariant = tick-invariant k cs i;
@@ -97,6 +108,8 @@ module _ (rank : Kernel → ℕ → ℕ) where
       account = λ o j. tick-account k i o j;
       begun = λ s e. tick-no-turn e;
       priority = same-priority cs;
+      clock = tick-clock k;
+      ahead = λ w _ j h. rw (tick-clock k) (tick-ahead k j h);
     }
     accepted-fact k (switch arena sp) i m cs =
         let on = switch-on k arena sp m in
@@ -108,6 +121,8 @@ module _ (rank : Kernel → ℕ → ℕ) where
           account = λ _ j. omega arith;
           begun = λ s e. let q = same-turn (pick-lt _ _ _) e in (q .0, q .1, on);
           priority = same-priority cs;
+          clock = omega arith;
+          ahead = λ w e. tick-no-turn (sym e);
         }
     accepted-fact k (add arena q r) i m cs = other-fact tt i cs
     accepted-fact k current-id i m cs = other-fact tt i cs
@@ -124,11 +139,17 @@ module _ (rank : Kernel → ℕ → ℕ) where
     accepted-fact k (try-lock n) i m cs = other-fact tt i cs
     accepted-fact k (unlock n) i m cs = other-fact tt i cs
     accepted-fact k (acquire n) i m cs = other-fact tt i cs
+    accepted-fact k (acquire-within n ticks) i m cs = other-fact tt i cs
     accepted-fact k (try-acquire n) i m cs = other-fact tt i cs
     accepted-fact k (release n) i m cs = other-fact tt i cs
     accepted-fact k (event-wait n) i m cs = other-fact tt i cs
+    accepted-fact k (event-wait-within n ticks) i m cs = other-fact tt i cs
     accepted-fact k (signal n) i m cs = other-fact tt i cs
     accepted-fact k (list arena records) i m cs = other-fact tt i cs
+
+    -- the invariant of every kernel from fresh
+    pub reached-invariant : {k : Kernel} → Reached k → Invariant k
+    reached-invariant = reached Invariant fresh-invariant (λ k c e i. accepted-fact k c i e (made-of k c e) .invariant)
 
     -- an answer is what its call does on the kernel before it, refused or not
     answer-fact : (k : Kernel) (c : Call) → Invariant k → Fact k (outcome (record { call = c; answer = step k c })) (step k c .kernel)
@@ -138,7 +159,7 @@ module _ (rank : Kernel → ℕ → ℕ) where
         (λ q. either (λ (v : Outcome). Fact k v (effect k c)) (eqb 0 0) (λ _. let m = eqb-true (number k c) 0 q in accepted-fact k c i m (made-of k c m)) (λ r. clash refl r))
         (λ q. either (λ (v : Outcome). Fact k v k) (eqb (number k c) 0) (λ r. clash r q) (λ _. other-fact {g = plain} tt i none))
 
-    entry-fact : (k : Kernel) (e : Entry) → Invariant k → e .answer ≡ step k (e .call) → Fact k (outcome e) (after e)
+    pub entry-fact : (k : Kernel) (e : Entry) → Invariant k → e .answer ≡ step k (e .call) → Fact k (outcome e) (after e)
     entry-fact k e i r = subst (λ (a : Answer). Fact k (outcome (record { call = e .call; answer = a })) (a .kernel)) (sym r) (answer-fact k (e .call) i)
 
     -- ---- a list of calls

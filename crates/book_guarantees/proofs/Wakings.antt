@@ -24,8 +24,8 @@ use Rattle.kernel.specs.declared.scheduler.Kernel.{Kernel}
 use Rattle.kernel.specs.declared.scheduler.Value.{Value}
 use Rattle.kernel.specs.declared.scheduler.Value.the-variants.{Nothing, Id, Turn, Region, NoRegion, YesNo, Count}
 use Rattle.kernel.specs.declared.scheduler.Answer.{Answer}
-use Rattle.kernel.specs.Update.{withState, withTasks}
-use Rattle.kernel.specs.Control.{stateNumber, inState, blankSlot}
+use Rattle.kernel.specs.Update.{withTasks}
+use Rattle.kernel.specs.Control.{stateNumber, inState, blankSlot, entered}
 use Rattle.kernel.specs.WaitQueue.{place, head, popped}
 use Rattle.kernel.specs.Kernel.{slot, at, currentId, slotOf, isPresent, semaphore, event, freshKernel}
 use Rattle.kernel.specs.Scheduler
@@ -37,14 +37,15 @@ use Rattle.kernel.proofs.Queue.{popped-length, popped-place}
 use Rattle.kernel.proofs.Tasks.{found-occupied, wake-is}
 use Rattle.kernel.proofs.Accepted.{accepted-is, accepted-object}
 use Rattle.kernel.proofs.Step.{step-accepted}
-use Rattle.kernel.proofs.Changes.{Change, task, sweep, clock, permits, flag, handoff, owner, added, reaped, begun, turned, still}
+use Rattle.kernel.proofs.Changes.{Change, task, begins, clock, permits, flag, handoff, owner, added, reaped, begun, turned, still}
 use Rattle.kernel.proofs.MadeOf.{heads}
-use Rattle.kernel.proofs.Reached.{reached-by}
+use Rattle.kernel.proofs.Whole.{is-whole}
+use Rattle.kernel.proofs.Reached.{reached-by, reached-whole}
 use Rattle.book_guarantees.specs.Wakings.{OneReady, OneWoken, NoneWoken, ReleaseOrSignal, releasing, signalling, Wakings, WakeGuarantee}
 
 -- ---- a wake
 
-is-blocked : (s : TaskState) → eqb (stateNumber s) 2 ≡ true → s ≡ Blocked
+pub is-blocked : (s : TaskState) → eqb (stateNumber s) 2 ≡ true → s ≡ Blocked
 is-blocked Ready e = absurd (false≢true e)
 is-blocked Running e = absurd (false≢true e)
 is-blocked Blocked e = refl
@@ -68,8 +69,8 @@ woken-one k a t =
     subst (λ (k′ : Kernel). OneReady k k′ i) (rw t at (wake-is a k)) (record {
       present = o;
       was = is-blocked (slot k i .state) (and-right (isPresent k a) _ t);
-      is = getD-set-same (k .tasks) i (withState Ready (slot k i)) blankSlot (in-table k i o);
-      others = λ j n. getD-set-other (k .tasks) i j (withState Ready (slot k i)) blankSlot n;
+      is = getD-set-same (k .tasks) i (entered Ready (slot k i)) blankSlot (in-table k i o);
+      others = λ j n. getD-set-other (k .tasks) i j (entered Ready (slot k i)) blankSlot n;
     })
 
 -- ---- heads dropped, n being how many wait
@@ -135,8 +136,8 @@ same-sized s v z = record { semaphores = s ∙ z .semaphores; events = v ∙ z .
 change-sized : (g : Kind) (k k′ : Kernel) → Change g k k′ → Sized k → Sized k′
 unfolding Scheduler.add
 change-sized g k k′ (task i u h c) = same-sized refl refl
-change-sized g k k′ (sweep f e h) = same-sized refl refl
-change-sized g k k′ clock = same-sized refl refl
+change-sized g k k′ (begins o n h b f p q) = same-sized refl refl
+change-sized g k k′ (clock l a) = same-sized refl refl
 change-sized g k k′ (permits s n q h c) = same-sized (length-set (k .semaphores) s _) refl
 change-sized g k k′ (flag v n q h c) = same-sized refl (length-set (k .events) v _)
 change-sized g k k′ (handoff m h q l c) = same-sized refl refl
@@ -154,19 +155,19 @@ sized : {k : Kernel} → Reached k → Sized k
 sized r = reached-by Sized fresh-sized change-sized r
 
 -- what stands beside the tasks is as it was
-beside : {A : Type 0} (f : Kernel → A) (k : Kernel) (q : WaitQueue) → ((l : List TaskControl) → f (withTasks l k) ≡ f k) → f (wakeOne q k .kernel) ≡ f k
-beside f k q e = heads f (currentId k) {g = plain} k q e (q .len) q still .beside
+beside : {A : Type 0} (f : Kernel → A) (k : Kernel) → Reached k → (q : WaitQueue) → ((l : List TaskControl) → f (withTasks l k) ≡ f k) → f (wakeOne q k .kernel) ≡ f k
+beside f k r q e = heads f (currentId k) {g = plain} k (is-whole k (reached-whole r)) q e (q .len) q (λ _ _. still) .beside
 
 semaphore-after : (k : Kernel) (s : ℕ) → Reached k → number k (release s) ≡ 0 → semaphore (effect k (release s)) s ≡ record { count = semaphore k s .count + 1; waiters = wakeOne (semaphore k s .waiters) k .waiters }
 unfolding effect Semaphore.release
 semaphore-after k s r e =
-    let l = ap (λ (x : List Semaphore). length x) (beside (λ k′. k′ .semaphores) k (semaphore k s .waiters) (λ _. refl)) in
+    let l = ap (λ (x : List Semaphore). length x) (beside (λ k′. k′ .semaphores) k r (semaphore k s .waiters) (λ _. refl)) in
     getD-set-same (wakeOne (semaphore k s .waiters) k .kernel .semaphores) s _ _ (omega (arith, accepted-object k (release s) s _ e refl, sized r .semaphores, l))
 
 event-after : (k : Kernel) (v : ℕ) → Reached k → number k (signal v) ≡ 0 → event (effect k (signal v)) v ≡ record { signaled = not (wakeOne (event k v .waiters) k .woke) || event k v .signaled; waiters = wakeOne (event k v .waiters) k .waiters }
 unfolding effect Event.signal
 event-after k v r e =
-    let l = ap (λ (x : List Event). length x) (beside (λ k′. k′ .events) k (event k v .waiters) (λ _. refl)) in
+    let l = ap (λ (x : List Event). length x) (beside (λ k′. k′ .events) k r (event k v .waiters) (λ _. refl)) in
     getD-set-same (wakeOne (event k v .waiters) k .kernel .events) v _ _ (omega (arith, accepted-object k (signal v) v _ e refl, sized r .events, l))
 
 -- an accepted release or signal
@@ -204,11 +205,11 @@ parts (YesNo b) = (true, b)
 parts (Count n) = (false, false)
 
 -- a call that answers yes or no was accepted
-answers : (k : Kernel) (c : Call) (b : Bool) → step k c .value ≡ YesNo b → number k c ≡ 0
+pub answers : (k : Kernel) (c : Call) (b : Bool) → step k c .value ≡ YesNo b → number k c ≡ 0
 unfolding step
 answers k c b = either (λ (a : Answer). a .value ≡ YesNo b → number k c ≡ 0) (eqb (number k c) 0) (λ e _. eqb-true _ _ e) (λ _ q. absurd (false≢true (ap (λ v. parts v .0) q)))
 
-accepts : (k : Kernel) (c : Call) → step k c .number ≡ 0 → number k c ≡ 0
+pub accepts : (k : Kernel) (c : Call) → step k c .number ≡ 0 → number k c ≡ 0
 unfolding step
 accepts k c = either (λ (a : Answer). a .number ≡ 0 → number k c ≡ 0) (eqb (number k c) 0) (λ e _. eqb-true _ _ e) (λ _ q. q)
 
@@ -216,7 +217,7 @@ taken : (k : Kernel) (c : Call) → number k c ≡ 0 → accepted (value k c) (e
 taken k c e = step-accepted k c (number k c) _ refl e refl
 
 -- P of what an accepted call did holds of its step
-of-step : (P : Answer → Type 0) (k : Kernel) (c : Call) → number k c ≡ 0 → P (accepted (value k c) (effect k c)) → P (step k c)
+pub of-step : (P : Answer → Type 0) (k : Kernel) (c : Call) → number k c ≡ 0 → P (accepted (value k c) (effect k c)) → P (step k c)
 of-step P k c e = subst P (taken k c e)
 
 which : (b : Bool) (v : Value) → v ≡ YesNo b → (v ≡ YesNo true) ⊎ (v ≡ YesNo false)
@@ -224,7 +225,7 @@ which true v e = inl e
 which false v e = inr e
 
 -- what was told of an accepted call, from its step's value
-told : (k : Kernel) (c : Call) (b d : Bool) → value k c ≡ YesNo d → step k c .value ≡ YesNo b → d ≡ b
+pub told : (k : Kernel) (c : Call) (b d : Bool) → value k c ≡ YesNo d → step k c .value ≡ YesNo b → d ≡ b
 told k c b d e h = ap (λ v. parts v .1) (sym e ∙ (ap (λ (a : Answer). a .value) (taken k c (answers k c b h)) ∙ h))
 
 -- ---- release and signal

@@ -2,3 +2,4 @@ pub mod Refusals
 pub mod Lists
 pub mod Turns
 pub mod Wakings
+pub mod Limits

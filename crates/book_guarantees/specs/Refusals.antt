@@ -12,9 +12,9 @@ use Rattle.kernel.specs.declared.control.TaskInfo.{TaskInfo}
 use Rattle.kernel.specs.declared.scheduler.Kernel.{Kernel}
 use Rattle.kernel.specs.declared.scheduler.Value.the-variants.{Nothing}
 use Rattle.kernel.specs.Kernel.{blankKernel}
-use Rattle.kernel.specs.Calls.{Call, add, start, tick, switch, current-id, status, block, sleep, wake, exit, wait, reap, reap-one, result, lock, try-lock, unlock, acquire, try-acquire, release, event-wait, signal, list, step, addWords, listRecords, init, initWords, pickRefused, pickBytes}
+use Rattle.kernel.specs.Calls.{Call, add, start, tick, switch, current-id, status, block, sleep, wake, exit, wait, reap, reap-one, result, lock, try-lock, unlock, acquire, acquire-within, try-acquire, release, event-wait, event-wait-within, signal, list, step, addWords, listRecords, init, initWords, pickRefused, pickBytes}
 
--- 01's table "Where a call is turned back": the numbers of each kernel call after 1, which every kernel call has, in the order of its checks
+-- 01's table "Where a call is turned back", as 02 continues it: the numbers of each kernel call after 1, which every kernel call has, in the order of its checks
 abbrev pub numbers : Call → List ℕ
 numbers (add arena p r) = 4 ∷ 5 ∷ 6 ∷ []
 numbers start = 3 ∷ []
@@ -34,9 +34,11 @@ numbers (lock m) = 20 ∷ 2 ∷ 13 ∷ 12 ∷ []
 numbers (try-lock m) = 20 ∷ 2 ∷ []
 numbers (unlock m) = 20 ∷ 2 ∷ 14 ∷ 15 ∷ []
 numbers (acquire s) = 20 ∷ 2 ∷ 12 ∷ []
+numbers (acquire-within s ticks) = 20 ∷ 2 ∷ 7 ∷ 12 ∷ []
 numbers (try-acquire s) = 20 ∷ []
 numbers (release s) = 20 ∷ 19 ∷ []
 numbers (event-wait e) = 20 ∷ 2 ∷ 12 ∷ []
+numbers (event-wait-within e ticks) = 20 ∷ 2 ∷ 7 ∷ 12 ∷ []
 numbers (signal e) = 20 ∷ []
 numbers (list arena records) = 21 ∷ []
 

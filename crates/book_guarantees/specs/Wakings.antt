@@ -8,7 +8,7 @@ use Rattle.kernel.specs.declared.control.TaskState.the-variants.{Ready, Blocked
 use Rattle.kernel.specs.declared.wait_queue.WaitQueue.{WaitQueue}
 use Rattle.kernel.specs.declared.scheduler.Kernel.{Kernel}
 use Rattle.kernel.specs.declared.scheduler.Value.the-variants.{YesNo}
-use Rattle.kernel.specs.Update.{withState}
+use Rattle.kernel.specs.Control.{entered}
 use Rattle.kernel.specs.WaitQueue.{place}
 use Rattle.kernel.specs.Kernel.{slot, slotOf, semaphore, event}
 use Rattle.kernel.specs.Scheduler.{wakes}
@@ -18,7 +18,7 @@ use Rattle.kernel.specs.Calls.{Call, wake, release, signal, step, Reached}
 pub record OneReady (k k′ : Kernel) (i : ℕ) : Type 0 where
   pub present : slot k i .occupied ≡ true
   pub was : slot k i .state ≡ Blocked
-  pub is : slot k′ i ≡ withState Ready (slot k i)
+  pub is : slot k′ i ≡ entered Ready (slot k i)
   pub others : (j : ℕ) → j ≢ i → slot k′ j ≡ slot k j
 
 -- of queue q the id at place p was woken; q′ is the queue after

@@ -1,4 +1,5 @@
 // Acquire and try acquire of a semaphore: synchronization/semaphore.rs of the source.
+use kernel::control::LimitObject;
 use kernel::control::TaskState;
 use kernel::scheduler::Answer;
 use kernel::scheduler::Kernel;
@@ -9,7 +10,7 @@ ghost use mathlib.Core.Path.{_≡_};
 ghost use Prim.Native.Nat.{_<_};
 ghost use Rattle.kernel.specs.Kernel.{current, semaphore, whole};
 ghost use Rattle.kernel.specs.Semaphore.{hasPermit, permitTaken, blockedOnSemaphore};
-ghost use Rattle.kernel.specs.Calls.{acquire, try-acquire, number, effect, step, firstOf, checks};
+ghost use Rattle.kernel.specs.Calls.{acquire, acquire-within, try-acquire, number, effect, step, firstOf, checks};
 
 pub mod internal;
 
@@ -87,6 +88,40 @@ pub fn acquire(k: Kernel, s: usize) -> Answer
     ensures { λ r. ⌜ r ≡ step k (acquire s) ⌝ }
 {
     internal::acquire(k, false, s)
+}
+
+// ---- acquire with a limit
+
+fn acquire_within_number(k: Kernel, is_whole: bool, s: usize, ticks: u64) -> u8
+    requires { ⌜ «is_whole» ≡ whole k ⌝ }
+    ensures { λ r. ⌜ r ≡ number k (acquire-within s ticks) ⌝ }
+{
+    let first = leaf_table::internal::object_number(k, is_whole, s);
+    if first != 0 {
+        return first;
+    }
+    if ticks == 0 {
+        return 7;
+    }
+    acquire_late_number(k, s)
+}
+
+fn acquired_within(k: Kernel, s: usize, ticks: u64) -> Kernel
+    requires { ⌜ (current k < 16) × (s < 4) ⌝ }
+    ensures { λ r. ⌜ r ≡ effect k (acquire-within s ticks) ⌝ }
+{
+    if has_permit(k, s) {
+        return permit_taken(k, s);
+    }
+    let object = LimitObject::AtSemaphore(s as u8);
+    leaf_table::internal::limited(blocked(k, s), object, ticks)
+}
+
+// As `acquire`, for so many ticks at most. Refused: 1, 20, 2, 7 a limit of 0, and 12.
+pub fn acquire_within(k: Kernel, s: usize, ticks: u64) -> Answer
+    ensures { λ r. ⌜ r ≡ step k (acquire-within s ticks) ⌝ }
+{
+    internal::acquire_within(k, false, s, ticks)
 }
 
 // ---- try acquire

@@ -1,4 +1,5 @@
 // Wait for an event: synchronization/event.rs of the source.
+use kernel::control::LimitObject;
 use kernel::control::TaskState;
 use kernel::event::Event;
 use kernel::scheduler::Answer;
@@ -9,7 +10,7 @@ ghost use mathlib.Core.Path.{_≡_};
 ghost use Prim.Native.Nat.{_<_};
 ghost use Rattle.kernel.specs.Kernel.{current, whole};
 ghost use Rattle.kernel.specs.Event.{signalTaken, blockedOnEvent};
-ghost use Rattle.kernel.specs.Calls.{event-wait, number, effect, step, firstOf, checks};
+ghost use Rattle.kernel.specs.Calls.{event-wait, event-wait-within, number, effect, step, firstOf, checks};
 
 pub mod internal;
 
@@ -78,4 +79,38 @@ pub fn wait(k: Kernel, e: usize) -> Answer
     ensures { λ r. ⌜ r ≡ step k (event-wait e) ⌝ }
 {
     internal::wait(k, false, e)
+}
+
+// ---- with a limit
+
+fn wait_within_number(k: Kernel, is_whole: bool, e: usize, ticks: u64) -> u8
+    requires { ⌜ «is_whole» ≡ whole k ⌝ }
+    ensures { λ r. ⌜ r ≡ number k (event-wait-within e ticks) ⌝ }
+{
+    let first = leaf_table::internal::object_number(k, is_whole, e);
+    if first != 0 {
+        return first;
+    }
+    if ticks == 0 {
+        return 7;
+    }
+    wait_late_number(k, e)
+}
+
+fn waited_within(k: Kernel, e: usize, ticks: u64) -> Kernel
+    requires { ⌜ (current k < 16) × (e < 4) ⌝ }
+    ensures { λ r. ⌜ r ≡ effect k (event-wait-within e ticks) ⌝ }
+{
+    if k.events[e].signaled {
+        return signal_taken(k, e);
+    }
+    let object = LimitObject::AtEvent(e as u8);
+    leaf_table::internal::limited(blocked(k, e), object, ticks)
+}
+
+// As `wait`, for so many ticks at most. Refused: 1, 20, 2, 7 a limit of 0, and 12.
+pub fn wait_within(k: Kernel, e: usize, ticks: u64) -> Answer
+    ensures { λ r. ⌜ r ≡ step k (event-wait-within e ticks) ⌝ }
+{
+    internal::wait_within(k, false, e, ticks)
 }

@@ -40,7 +40,7 @@ fn exit_number(k: Kernel, is_whole: bool) -> u8
 fn terminated(t: TaskControl) -> TaskControl
     ensures { λ r. ⌜ r ≡ terminated t ⌝ }
 {
-    let mut next = t.with_state(TaskState::Terminated)
+    let mut next = t.entered(TaskState::Terminated)
         .with_waiter(OptionTaskId::None);
     next.remaining_slice = 0;
     next.wake_tick = 0;

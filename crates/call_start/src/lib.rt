@@ -24,7 +24,7 @@ fn started(mut k: Kernel) -> Answer
     let slot = pick::internal::next_task(k);
     let i = slot.0;
     let t = k.tasks[i];
-    let next = t.with_state(TaskState::Running);
+    let next = t.entered(TaskState::Running);
     k.started = true;
     k.tasks[i] = next;
     k.current = slot;

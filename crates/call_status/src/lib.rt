@@ -1,12 +1,13 @@
 // Calls on current: its id, and its state. sched/scheduler.rs of the source.
 use kernel::control::TaskState;
+use kernel::internal::saturating_add;
 use kernel::scheduler::Answer;
 use kernel::scheduler::Kernel;
 use kernel::scheduler::Value;
 use leaf_table::internal::answer;
 ghost use mathlib.Core.Path.{_≡_};
 ghost use mathlib.Core.Bool.{not};
-ghost use Prim.Native.Nat.{_+_, _-_, _^_, _<_, min};
+ghost use Prim.Native.Nat.{_<_};
 ghost use Rattle.base.specs.Choice.{if_then_else_};
 ghost use Rattle.kernel.specs.Control.{stateOf};
 ghost use Rattle.kernel.specs.Kernel.{current, whole};
@@ -82,22 +83,13 @@ pub fn block_current_task(k: Kernel) -> Answer
     internal::block_current_task(k, false)
 }
 
-fn saturating_add(a: u64, b: u64) -> u64
-    ensures { λ r. ⌜ r ≡ min (a + b) (2 ^ 64 - 1) ⌝ }
-{
-    if u64::MAX - a < b {
-        return u64::MAX;
-    }
-    a + b
-}
-
 fn put_to_sleep(mut k: Kernel, ticks: u64) -> Kernel
     requires { ⌜ current k < 16 ⌝ }
     ensures { λ r. ⌜ r ≡ slept ticks k ⌝ }
 {
     let i = k.current.0;
     let t = k.tasks[i];
-    let mut next = t.with_state(TaskState::Sleeping);
+    let mut next = t.entered(TaskState::Sleeping);
     next.wake_tick = saturating_add(k.tick_count, ticks);
     k.tasks[i] = next;
     k

@@ -73,7 +73,7 @@ fn context_saved(mut t: TaskControl, sp: u32) -> TaskControl
 {
     t.sp = sp;
     if t.is_running() {
-        return t.with_state(TaskState::Ready);
+        return t.entered(TaskState::Ready);
     }
     t
 }
@@ -98,7 +98,7 @@ fn switched(mut k: Kernel, sp: u32) -> Answer
     let slot = pick::internal::next_task(k);
     let i = slot.0;
     let t = k.tasks[i];
-    let next = reloaded(t).with_state(TaskState::Running);
+    let next = reloaded(t).entered(TaskState::Running);
     k.tasks[i] = next;
     k.current = slot;
     answer::accepted(Value::Turn(slot, t.sp), k)

@@ -1,16 +1,21 @@
 // The tick: `update_tick` of sched/scheduler.rs.
+use kernel::control::LimitObject;
 use kernel::control::TaskControl;
+use kernel::control::TaskId;
 use kernel::control::TaskState;
+use kernel::event::Event;
 use kernel::internal::one_less;
 use kernel::scheduler::Answer;
 use kernel::scheduler::Kernel;
 use kernel::scheduler::Value;
+use kernel::semaphore::Semaphore;
 use leaf_table::internal::answer;
 ghost use mathlib.Core.Path.{_≡_};
 ghost use mathlib.Core.Bool.{true, _||_, not};
-ghost use Prim.Native.Nat.{_-_, _^_, _<_, _≤_};
-ghost use Rattle.kernel.specs.Kernel.{charge, current, whole};
-ghost use Rattle.kernel.specs.Scheduler.{isDue, spent};
+ghost use Prim.Native.Nat.{_-_, _^_, _<_};
+ghost use Rattle.kernel.specs.WaitQueue.{removed};
+ghost use Rattle.kernel.specs.Kernel.{whole};
+ghost use Rattle.kernel.specs.Scheduler.{isDue, isLimitDue, spent};
 ghost use Rattle.kernel.specs.Calls.{tick, number, value, effect, accepted, step};
 
 pub mod internal;
@@ -48,7 +53,42 @@ fn tick_number(k: Kernel, is_whole: bool) -> u8
 fn is_due(t: TaskControl, now: u64) -> bool
     ensures { λ r. ⌜ r ≡ isDue now t ⌝ }
 {
-    t.occupied & t.is_sleeping() & (t.wake_tick <= now)
+    if !t.is_sleeping() {
+        return false;
+    }
+    t.occupied & (t.wake_tick <= now)
+}
+
+fn is_limit_due(t: TaskControl, now: u64) -> bool
+    ensures { λ r. ⌜ r ≡ isLimitDue now t ⌝ }
+{
+    let object = t.limit_object;
+    if !object.is_limit() {
+        return false;
+    }
+    t.occupied & (t.limit_tick <= now)
+}
+
+fn semaphore_without(x: Semaphore, id: TaskId) -> Semaphore
+    ensures { λ r. ⌜ r ≡ record { count = x .count; waiters = removed (x .waiters) id } ⌝ }
+{
+    let q = x.waiters;
+    let waiters = leaf_queue::removed(q, id);
+    Semaphore {
+        count: x.count,
+        waiters,
+    }
+}
+
+fn event_without(x: Event, id: TaskId) -> Event
+    ensures { λ r. ⌜ r ≡ record { signaled = x .signaled; waiters = removed (x .waiters) id } ⌝ }
+{
+    let q = x.waiters;
+    let waiters = leaf_queue::removed(q, id);
+    Event {
+        signaled: x.signaled,
+        waiters,
+    }
 }
 
 // One tick off the slice; at 0 it is full again.
@@ -65,20 +105,37 @@ fn spent(mut t: TaskControl) -> TaskControl
 }
 
 fn ticked(mut k: Kernel) -> Answer
-    requires { ⌜ (current k < 16) × (k .«tick_count» < 2 ^ 64 - 1) × (charge k (current k) ≤ k .«tick_count») ⌝ }
+    requires { ⌜ (whole k ≡ true) × (k .«tick_count» < 2 ^ 64 - 1) ⌝ }
     ensures { λ r. ⌜ r ≡ accepted (value k tick) (effect k tick) ⌝ }
 {
     let now = k.tick_count + 1;
-    k.tick_count = now;
     let mut woke = false;
     for i in 0..Kernel::MAX_TASKS {
         let t = k.tasks[i];
-        if is_due(t, now) {
-            let next = t.with_state(TaskState::Ready);
-            k.tasks[i] = next;
+        if is_limit_due(t, now) {
             woke = true;
+            let id = t.id;
+            let object = t.limit_object;
+            match object {
+                LimitObject::NoLimit => {}
+                LimitObject::AtSemaphore(s) => {
+                    let next = semaphore_without(k.semaphores[s as usize], id);
+                    k.semaphores[s as usize] = next;
+                }
+                LimitObject::AtEvent(e) => {
+                    let next = event_without(k.events[e as usize], id);
+                    k.events[e as usize] = next;
+                }
+            }
+            let next = t.expired();
+            k.tasks[i] = next;
+        } else if is_due(t, now) {
+            woke = true;
+            let next = t.entered(TaskState::Ready);
+            k.tasks[i] = next;
         }
     }
+    k.tick_count = now;
     if !k.started {
         return answer::accepted(Value::YesNo(false), k);
     }

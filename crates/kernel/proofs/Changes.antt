@@ -1,23 +1,23 @@
 -- What every accepted call does, taken apart once: a chain of changes, each of one part of the kernel. What each change keeps, every call keeps.
-use Prim.Native.Nat.{ℕ, _+_, _≤_, _<_}
-use mathlib.Core.Path.{_≡_, refl, sym, ap, _∙_}
+use Prim.Native.Nat.{ℕ, _+_, _-_, _^_, _≤_, _<_}
+use mathlib.Core.Path.{_≡_, refl, ap, _∙_}
 use mathlib.Core.Bool.{Bool, true, false, not}
-use mathlib.Core.List.{List, map}
+use mathlib.Core.List.{List, []}
 use lib.Dec.{eqb}
 use lib.IntN.{ℤ}
-use lib.ListN.{length, getD, set, length-set, length-map, List·getD-map}
+use lib.ListN.{length, getD, set, length-set}
 use borrow.Author.Tests.{ltb-true, not-true}
 use Rattle.base.specs.Choice.{if_then_else_}
 use Rattle.base.proofs.Choices.{either}
 use Rattle.base.proofs.Loops.{lowest-is, set-each}
-use Rattle.kernel.specs.Types.{Priority, StackRegion, OptionTaskId, None, Some, TaskId, TaskState, Running, Sleeping, Terminated, TaskControl, WaitQueue, Kernel}
-use Rattle.kernel.specs.Update.{withState, withWakeTick, withOwned, withRemaining, withWaiter, withResult, withTasks, withCharges, withTickCount, withStarted}
-use Rattle.kernel.specs.Control.{stateNumber, inState, names, holdsTask, blankSlot, newTask}
-use Rattle.kernel.specs.WaitQueue.{head, enqueued, popped}
-use Rattle.kernel.specs.Kernel.{slot, charge, at, current, currentTask, currentId, atId, isPresent, slotOf, mutex, semaphore, event, withMutex, withSemaphore, withEvent}
-use Rattle.kernel.specs.Scheduler.{nextTask, nextId, terminated, emptied, lowestEmpty, ownedUp, ownedDown, contextSaved, dispatched, reloaded}
+use Rattle.kernel.specs.Types.{Priority, StackRegion, OptionTaskId, None, Some, TaskId, TaskState, Running, Blocked, Sleeping, Terminated, LimitObject, NoLimit, AtSemaphore, AtEvent, TaskControl, WaitQueue, Semaphore, Event, Kernel}
+use Rattle.kernel.specs.Update.{withLimit, withWakeTick, withOwned, withRemaining, withWaiter, withResult, withTasks, withCharges, withTickCount, withStarted}
+use Rattle.kernel.specs.Control.{stateNumber, inState, names, holdsTask, hasLimit, objectFits, entered, expired, blankSlot, newTask}
+use Rattle.kernel.specs.WaitQueue.{emptyQueue, contains, head, enqueued, popped, removed}
+use Rattle.kernel.specs.Kernel.{slot, charge, at, holdsId, current, currentTask, currentId, atId, isPresent, slotOf, mutex, semaphore, event, withMutex, withSemaphore, withEvent}
+use Rattle.kernel.specs.Scheduler.{wakeTick, nextTask, nextId, terminated, emptied, lowestEmpty, ownedUp, ownedDown, contextSaved, dispatched, reloaded}
 use Rattle.kernel.specs.Scheduler
-use Rattle.kernel.specs.Calls.{Kind, adding, reaping, starting, switching, ticking, owning}
+use Rattle.kernel.specs.Calls.{Kind, adding, reaping, starting, switching, ticking, owning, plain}
 use Rattle.kernel.proofs.Whole.{RegionFits}
 
 -- ---- changes of a task, of a queue, of a kernel
@@ -25,20 +25,40 @@ use Rattle.kernel.proofs.Whole.{RegionFits}
 -- a task that stays in its slot; none of these is a turn
 pub data TaskChange : Kind → TaskControl → TaskControl → Type 0 where
   same : {g : Kind} {t : TaskControl} → TaskChange g t t
-  state : {g : Kind} {t : TaskControl} (s : TaskState) → eqb (stateNumber s) 1 ≡ false → TaskChange g t (withState s t)
-  asleep : {g : Kind} {t : TaskControl} (until : ℕ) → TaskChange g t (withWakeTick until (withState Sleeping t))
+  state : {g : Kind} {t : TaskControl} (s : TaskState) → eqb (stateNumber s) 1 ≡ false → TaskChange g t (entered s t)
+  asleep : {g : Kind} {t : TaskControl} (until : ℕ) → TaskChange g t (withWakeTick until (entered Sleeping t))
   ended : {g : Kind} {t : TaskControl} → TaskChange g t (terminated t)
   waiter : {g : Kind} {t : TaskControl} (a : OptionTaskId) → TaskChange g t (withWaiter a t)
   answered : {g : Kind} {t : TaskControl} (r : ℤ) → TaskChange g t (withResult r t)
+  passed : {g : Kind} {t : TaskControl} → TaskChange g t (expired t)
   less : {t : TaskControl} (n : ℕ) → n ≤ t .«remaining_slice» → TaskChange ticking t (withRemaining n t)
   full : {t : TaskControl} → TaskChange ticking t (withRemaining (t .«time_slice») t)
   saved : {t : TaskControl} (sp : ℕ) → TaskChange switching t (contextSaved sp t)
 
--- only current joins; heads leave, one after another
-pub data QueueChange (a : TaskId) : WaitQueue → WaitQueue → Type 0 where
-  still : {q : WaitQueue} → QueueChange a q q
-  joined : {q : WaitQueue} → QueueChange a q (enqueued q a)
-  left : {q r : WaitQueue} → QueueChange a q r → QueueChange a q (popped r)
+-- only current joins; heads leave, one after another, and an id leaves out of the middle; P is known of each that leaves
+pub data QueueChange (P : TaskId → Type 0) (a : TaskId) : WaitQueue → WaitQueue → Type 0 where
+  still : {q : WaitQueue} → QueueChange P a q q
+  joined : {q : WaitQueue} → QueueChange P a q (enqueued q a)
+  left : {q r : WaitQueue} → P (head r) → QueueChange P a q r → QueueChange P a q (popped r)
+  out : {q : WaitQueue} (b : TaskId) → P b → QueueChange P a q (removed q b)
+
+-- of an id that leaves a mutex's queue nothing is known
+abbrev pub Anyone : TaskId → Type 0
+Anyone b = Unit {0}
+
+-- of one that leaves another queue: no slot holds it, or a slot that does has no limit
+pub data Unlimited (k : Kernel) (a : TaskId) : Type 0 where
+  absent : ((i : ℕ) → i < 16 → holdsId a (slot k i) ≡ false) → Unlimited k a
+  present : (i : ℕ) → i < 16 → holdsId a (slot k i) ≡ true → hasLimit (slot k i) ≡ false → Unlimited k a
+
+-- the queue of a limit's object
+abbrev pub queueIn : LimitObject → List Semaphore → List Event → WaitQueue
+queueIn NoLimit semaphores events = emptyQueue
+queueIn (AtSemaphore s) semaphores events = getD semaphores s (record { count = 0; waiters = record { ids = []; len = 0 } }) .waiters
+queueIn (AtEvent e) semaphores events = getD events e (record { signaled = false; waiters = record { ids = []; len = 0 } }) .waiters
+
+abbrev pub queueAt : LimitObject → Kernel → WaitQueue
+queueAt o k = queueIn o (k .semaphores) (k .events)
 
 -- an owned count up or down, of the task named
 abbrev pub raised : OptionTaskId → Kernel → Kernel
@@ -57,7 +77,7 @@ moved from to k = raised to (lowered from k) .tasks
 pub data Hand (k : Kernel) (m : ℕ) : Bool → OptionTaskId → OptionTaskId → Type 0 where
   taken : mutex k m .locked ≡ false → Hand k m true None (Some (currentId k))
   freed : names (mutex k m .owner) (currentId k) ≡ true → Hand k m false (Some (currentId k)) None
-  passed : names (mutex k m .owner) (currentId k) ≡ true → Hand k m true (Some (currentId k)) (Some (head (mutex k m .waiters)))
+  handed : names (mutex k m .owner) (currentId k) ≡ true → Hand k m true (Some (currentId k)) (Some (head (mutex k m .waiters)))
 
 -- the charges after a tick
 abbrev pub charged : Kernel → List ℕ
@@ -65,17 +85,18 @@ charged k = if k .started then set (k .charges) (current k) (charge k (current k
 
 -- Each carries what an accepted call knows of it; a kind rules out the changes that its calls do not make.
 pub data Change : Kind → Kernel → Kernel → Type 0 where
-  -- the task in one slot; a tick's walk over all of them
+  -- the task in one slot; the limit of current, which is Blocked and queued there
   task : {g : Kind} {k : Kernel} (i : ℕ) (u : TaskControl) → i < 16 → TaskChange g (slot k i) u → Change g k (withTasks (set (k .tasks) i u) k)
-  sweep : {k : Kernel} (f : TaskControl → TaskControl) → f blankSlot ≡ blankSlot → ((t : TaskControl) → TaskChange ticking t (f t)) → Change ticking k (withTasks (map f (k .tasks)) k)
-  -- tick_count, and current's charge with it
-  clock : {k : Kernel} → Change ticking k (withTickCount (k .«tick_count» + 1) (withCharges (charged k) k))
+  begins : {k : Kernel} (o : LimitObject) (ticks : ℕ) → current k < 16 → (currentTask k .occupied ≡ true → inState Blocked (currentTask k) ≡ true) → objectFits o ≡ true → 0 < ticks
+      → (length (queueAt o k .ids) ≡ 8 → contains (queueAt o k) (currentId k) ≡ true) → Change plain k (Scheduler.limited o ticks k)
+  -- tick_count, and current's charge with it, once no limit ends
+  clock : {k : Kernel} → (k .«tick_count» ≡ 2 ^ 64 - 1 → ⊥) → ((i : ℕ) → i < 16 → slot k i .occupied ≡ true → hasLimit (slot k i) ≡ true → k .«tick_count» + 1 < slot k i .«limit_tick») → Change ticking k (withTickCount (k .«tick_count» + 1) (withCharges (charged k) k))
   -- a semaphore's count, an event's flag, a mutex's handoff_to, each with its queue
-  permits : {g : Kind} {k : Kernel} (s n : ℕ) (q : WaitQueue) → s < 4 → QueueChange (currentId k) (semaphore k s .waiters) q → Change g k (withSemaphore s (record { count = n; waiters = q }) k)
-  flag : {g : Kind} {k : Kernel} (e : ℕ) (b : Bool) (q : WaitQueue) → e < 4 → QueueChange (currentId k) (event k e .waiters) q → Change g k (withEvent e (record { signaled = b; waiters = q }) k)
-  handoff : {k : Kernel} (m : ℕ) (h : OptionTaskId) (q : WaitQueue) → m < 4 → QueueChange (currentId k) (mutex k m .waiters) q → Change owning k (withMutex m (record { locked = mutex k m .locked; owner = mutex k m .owner; «handoff_to» = h; waiters = q }) k)
+  permits : {g : Kind} {k : Kernel} (s n : ℕ) (q : WaitQueue) → s < 4 → QueueChange (Unlimited k) (currentId k) (semaphore k s .waiters) q → Change g k (withSemaphore s (record { count = n; waiters = q }) k)
+  flag : {g : Kind} {k : Kernel} (e : ℕ) (b : Bool) (q : WaitQueue) → e < 4 → QueueChange (Unlimited k) (currentId k) (event k e .waiters) q → Change g k (withEvent e (record { signaled = b; waiters = q }) k)
+  handoff : {k : Kernel} (m : ℕ) (h : OptionTaskId) (q : WaitQueue) → m < 4 → QueueChange Anyone (currentId k) (mutex k m .waiters) q → Change owning k (withMutex m (record { locked = mutex k m .locked; owner = mutex k m .owner; «handoff_to» = h; waiters = q }) k)
   -- a mutex's owner, with the owned counts of both
-  owner : {k : Kernel} (m : ℕ) (l : Bool) (from to h : OptionTaskId) (q : WaitQueue) → m < 4 → Hand k m l from to → QueueChange (currentId k) (mutex k m .waiters) q → Change owning k (withMutex m (record { locked = l; owner = to; «handoff_to» = h; waiters = q }) (withTasks (moved from to k) k))
+  owner : {k : Kernel} (m : ℕ) (l : Bool) (from to h : OptionTaskId) (q : WaitQueue) → m < 4 → Hand k m l from to → QueueChange Anyone (currentId k) (mutex k m .waiters) q → Change owning k (withMutex m (record { locked = l; owner = to; «handoff_to» = h; waiters = q }) (withTasks (moved from to k) k))
   -- a slot filled or emptied, with task_count
   added : {k : Kernel} (p : Priority) (r : StackRegion) → lowestEmpty k < 16 → RegionFits (k .«arena_words») r → Change adding k (Scheduler.add p r k)
   reaped : {k : Kernel} (i : ℕ) → i < 16 → (0 ≡ i → ⊥) → (current k ≡ i → ⊥) → holdsTask Terminated (slot k i) ≡ true → Change reaping k (emptied i k)
@@ -122,8 +143,8 @@ carry P f (_then_ {k′ = k′} {k″ = k″} cs c) p = f k′ k″ c (carry P f
 pub slots-kept : {g : Kind} {k k′ : Kernel} → Change g k k′ → length (k′ .tasks) ≡ length (k .tasks)
 unfolding Scheduler.add
 slots-kept (task {k = k} i u h c) = length-set (k .tasks) i u
-slots-kept (sweep {k = k} f e h) = length-map (k .tasks) f
-slots-kept clock = refl
+slots-kept (begins {k = k} o n h b f t s) = length-set (k .tasks) _ _
+slots-kept (clock l a) = refl
 slots-kept (permits s n q h c) = refl
 slots-kept (flag v n q h c) = refl
 slots-kept (handoff m h q l c) = refl
@@ -135,17 +156,15 @@ slots-kept (turned {k = k} x h o) = length-set (k .tasks) _ _
 
 -- ---- slot by slot
 
-pub swept : (f : TaskControl → TaskControl) → f blankSlot ≡ blankSlot → (l : List TaskControl) (j : ℕ) → getD (map f l) j blankSlot ≡ f (getD l j blankSlot)
-swept f b l j = ap (λ (d : TaskControl). getD (map f l) j d) (sym b) ∙ List·getD-map f l j blankSlot
-
 -- all that happens to a slot
 pub data SlotChange : Kind → TaskControl → TaskControl → Type 0 where
   by : {g : Kind} {t u : TaskControl} → TaskChange g t u → SlotChange g t u
+  limited : {t : TaskControl} (o : LimitObject) (n : ℕ) → (t .occupied ≡ true → inState Blocked t ≡ true) → objectFits o ≡ true → SlotChange plain t (withLimit o n t)
   counted : {t : TaskControl} (n : ℕ) → SlotChange owning t (withOwned n t)
   new : {t : TaskControl} (a : TaskId) (p : Priority) (r : StackRegion) → t .occupied ≡ false → SlotChange adding t (newTask a p r)
   cleared : {t : TaskControl} → holdsTask Terminated t ≡ true → SlotChange reaping t blankSlot
-  run-first : {t : TaskControl} → SlotChange starting t (withState Running t)
-  run-next : {t : TaskControl} → SlotChange switching t (withState Running (reloaded t))
+  run-first : {t : TaskControl} → SlotChange starting t (entered Running t)
+  run-next : {t : TaskControl} → SlotChange switching t (entered Running (reloaded t))
 
 one-slot : (T : TaskControl → TaskControl → Type 0) → ((t : TaskControl) → T t t) → (k : Kernel) (i : ℕ) (u : TaskControl) → T (slot k i) u → (j : ℕ) → T (slot k j) (getD (set (k .tasks) i u) j blankSlot)
 one-slot T r k i u h = set-each (λ j t. T (slot k j) t) blankSlot (k .tasks) i u h (λ j. r (slot k j))
@@ -158,8 +177,8 @@ first-empty k h = not-true _ (lowest-is (λ i. not (slot k i .occupied)) 16 h)
 pub each-slot : {g : Kind} (T : TaskControl → TaskControl → Type 0) → ((t : TaskControl) → T t t) → ((t u v : TaskControl) → T t u → T u v → T t v) → ((t u : TaskControl) → SlotChange g t u → T t u) → {k k′ : Kernel} → Change g k k′ → (j : ℕ) → T (slot k j) (slot k′ j)
 unfolding Scheduler.add
 each-slot T r t f (task {k = k} i u h c) = one-slot T r k i u (f _ _ (by c))
-each-slot T r t f (sweep {k = k} w e h) = λ j. rw (swept w e (k .tasks) j) (f _ _ (by (h (slot k j))))
-each-slot T r t f (clock {k = k}) = λ j. r (slot k j)
+each-slot T r t f (begins {k = k} o n h b g p s) = one-slot T r k _ _ (f _ _ (limited o (wakeTick n k) b g))
+each-slot T r t f (clock {k = k} l a) = λ j. r (slot k j)
 each-slot T r t f (permits {k = k} s n q h c) = λ j. r (slot k j)
 each-slot T r t f (flag {k = k} v n q h c) = λ j. r (slot k j)
 each-slot T r t f (handoff {k = k} m h q l c) = λ j. r (slot k j)

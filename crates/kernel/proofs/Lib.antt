@@ -6,6 +6,8 @@ pub mod Checks
 pub mod Accepted
 pub mod Tasks
 pub mod Changes
+pub mod Unlimited
+pub mod Walk
 pub mod MadeOf
 pub mod Stays
 pub mod Owned

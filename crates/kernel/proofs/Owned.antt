@@ -5,9 +5,9 @@ use native.Mathlib.Decide.{ℕ-discrete, decLt}
 use native.Mathlib.Omega.{arith}
 use mathlib.Core.Path.{_≡_, refl, sym, ap, subst, _∙_}
 use mathlib.Core.Bool.{Bool, true, false, false≢true}
-use mathlib.Core.List.{List, [], map}
+use mathlib.Core.List.{List, []}
 use lib.Dec.{eqb}
-use lib.ListN.{length, getD, set, length-set, length-map, replicate, List·getD-eq-default}
+use lib.ListN.{length, getD, set, length-set, replicate, List·getD-eq-default}
 use lib.Seq.{getD-set-same, getD-set-other}
 use borrow.Author.Tests.{ltb-true, ltb-false, eqb-true, eq-eqb, ne-eqb}
 use Rattle.base.specs.Choice.{if_then_else_}
@@ -15,14 +15,14 @@ use Rattle.base.specs.Below.{countBelow}
 use Rattle.base.proofs.Choices.{either, and-left, and-right}
 use Rattle.base.proofs.Loops.{count-same, count-le, count-one, count-some, lowest-is, lowest-at, set-each, tabulate-at, tabulate-length}
 use Rattle.kernel.specs.Types.{OptionTaskId, None, Some, TaskId, Running, TaskControl, WaitQueue, Mutex, Semaphore, Event, Kernel}
-use Rattle.kernel.specs.Update.{withState, withOwned, withTasks, withTaskCount, withNextId}
-use Rattle.kernel.specs.Control.{names, inState, blankSlot, newTask}
-use Rattle.kernel.specs.WaitQueue.{zeroId, place, contains, isFull, pushed, enqueued, placeWithout, without, isEmpty, head, popped}
+use Rattle.kernel.specs.Update.{withOwned, withTasks, withTaskCount, withNextId}
+use Rattle.kernel.specs.Control.{names, inState, blankSlot, newTask, entered}
+use Rattle.kernel.specs.WaitQueue.{zeroId, place, position, contains, isFull, pushed, enqueued, placeWithout, without, isEmpty, head, popped, removed}
 use Rattle.kernel.specs.Kernel.{slot, at, current, currentId, holdsId, slotOf, isPresent, atId, mutex, withMutex, newMutex, newSemaphore, newEvent, freshKernel}
 use Rattle.kernel.specs.Scheduler.{nextTask, lowestEmpty, nextId, contextSaved, reloaded}
 use Rattle.kernel.specs.Scheduler
 use Rattle.kernel.specs.Calls.{initNumber, Kind, adding, reaping, starting, switching, ticking, owning, plain}
-use Rattle.kernel.proofs.Changes.{TaskChange, same, state, asleep, ended, waiter, answered, less, full, saved, QueueChange, still, joined, left, raised, lowered, moved, Hand, taken, freed, passed, Change, task, sweep, clock, permits, flag, handoff, owner, added, reaped, begun, turned, owner-each, swept, first-empty}
+use Rattle.kernel.proofs.Changes.{TaskChange, same, state, asleep, ended, waiter, answered, passed, less, full, saved, QueueChange, still, joined, left, out, raised, lowered, moved, Hand, taken, freed, handed, Change, task, begins, clock, permits, flag, handoff, owner, added, reaped, begun, turned, owner-each, first-empty}
 use Rattle.kernel.proofs.Whole.{Whole}
 use Rattle.kernel.proofs.Accepted.{init-accepted}
 use Rattle.kernel.proofs.Stays.{OwnedFits, Besides, change-stays}
@@ -74,6 +74,7 @@ task-same (asleep n) = record { occupied = refl; id = refl; owned = refl }
 task-same ended = record { occupied = refl; id = refl; owned = refl }
 task-same (waiter a) = record { occupied = refl; id = refl; owned = refl }
 task-same (answered r) = record { occupied = refl; id = refl; owned = refl }
+task-same passed = record { occupied = refl; id = refl; owned = refl }
 task-same (less n h) = record { occupied = refl; id = refl; owned = refl }
 task-same full = record { occupied = refl; id = refl; owned = refl }
 task-same (saved {t = t} sp) = either (Same t) (inState Running t) (λ _. record { occupied = refl; id = refl; owned = refl }) (λ _. record { occupied = refl; id = refl; owned = refl })
@@ -116,14 +117,15 @@ without-known n q i z h j = go (decLt j 8)
     go (yes l) = rw (tabulate-at (placeWithout q i) zeroId 8 j l) (either ok _ (λ _. z) (λ _. either ok _ (λ _. h j) (λ _. h (j + 1))))
     go (no l) = rw (List·getD-eq-default (without q i .ids) zeroId {n = j} (omega (arith, tabulate-length (placeWithout q i) 8, l))) z
 
-queue-known : {a : TaskId} {q r : WaitQueue} (n : ℕ) → 0 < n → a .0 < n → QueueChange a q r → ((j : ℕ) → place q j .0 < n) → (j : ℕ) → place r j .0 < n
-unfolding enqueued pushed popped
+queue-known : {P : TaskId → Type 0} {a : TaskId} {q r : WaitQueue} (n : ℕ) → 0 < n → a .0 < n → QueueChange P a q r → ((j : ℕ) → place q j .0 < n) → (j : ℕ) → place r j .0 < n
+unfolding enqueued pushed popped removed
 queue-known n z l still h = h
-queue-known {a} n z l (joined {q = q}) h = either ok (contains q a) (λ _. h) (λ _. either ok (isFull q) (λ _. h) (λ _. set-each (λ j (b : TaskId). b .0 < n) zeroId (q .ids) (q .len) a l h))
+queue-known {a = a} n z l (joined {q = q}) h = either ok (contains q a) (λ _. h) (λ _. either ok (isFull q) (λ _. h) (λ _. set-each (λ j (b : TaskId). b .0 < n) zeroId (q .ids) (q .len) a l h))
   where
     ok : WaitQueue → Type 0
     ok x = (j : ℕ) → place x j .0 < n
-queue-known n z l (left {r = r} c) h = let g = queue-known n z l c h in either (λ x. (j : ℕ) → place x j .0 < n) (isEmpty r) (λ _. g) (λ _. without-known n r 0 z g)
+queue-known n z l (out {q = q} b p) h = either (λ x. (j : ℕ) → place x j .0 < n) (contains q b) (λ _. without-known n q (position q b) z h) (λ _. h)
+queue-known n z l (left {r = r} p c) h = let g = queue-known n z l c h in either (λ x. (j : ℕ) → place x j .0 < n) (isEmpty r) (λ _. g) (λ _. without-known n r 0 z g)
 
 -- ---- counting
 
@@ -224,7 +226,7 @@ module _ (k : Kernel) (w : Owned k) (m : ℕ) (l : m < 4) (i : ℕ) (o : Occupie
   hand-counts : {b : Bool} {from to : OptionTaskId} → Hand k m b from to → slot (raised to (lowered from k)) i .«owned_mutex_count» + bit (names (mutex k m .owner) a) ≡ slot k i .«owned_mutex_count» + bit (names to a)
   hand-counts (taken e) = omega (arith, at-owned k (w .slots) (w .apart) (currentId k) (λ x. x + 1) i o, choose-up (names (Some (currentId k)) a) (slot k i .«owned_mutex_count»), ap (λ (x : OptionTaskId). bit (names x a)) (w .free m e))
   hand-counts (freed e) = omega (arith, at-owned k (w .slots) (w .apart) (currentId k) (λ x. x - 1) i o, choose-down (names (Some (currentId k)) a) (slot k i .«owned_mutex_count»), ap bit (same-names (mutex k m .owner) (currentId k) a e), w .counts i o, bit-le (λ j. names (mutex k j .owner) a) 4 m l)
-  hand-counts (passed e) =
+  hand-counts (handed e) =
       let k₁ = lowered (Some (currentId k)) k in
       let s = moved-same (Some (currentId k)) None k in
       let next = head (mutex k m .waiters) in
@@ -267,12 +269,12 @@ mutex-stays {k} m x l w size s known queue free counts = record {
 hand-known : {k : Kernel} {m : ℕ} {b : Bool} {from to : OptionTaskId} → Owned k → Hand k m b from to → Known (k .«next_id») to
 hand-known {k} w (taken e) = w .ids (current k) (w .running)
 hand-known w (freed e) = tt
-hand-known {k} {m} w (passed e) = w .queued m 0
+hand-known {k} {m} w (handed e) = w .queued m 0
 
 hand-free : {k : Kernel} {m : ℕ} {b : Bool} {from to : OptionTaskId} → Hand k m b from to → b ≡ false → to ≡ None
 hand-free (taken e) f = absurd (false≢true (sym f))
 hand-free (freed e) f = refl
-hand-free (passed e) f = absurd (false≢true (sym f))
+hand-free (handed e) f = absurd (false≢true (sym f))
 
 nobody : (n : ℕ) (o : OptionTaskId) → Known n o → names o (record { 0 = n }) ≡ false
 nobody n None h = refl
@@ -327,19 +329,17 @@ add-owned k x t w e h id owned on n = record {
 
 -- f of the picked task made Running
 run-stays : (k k′ : Kernel) (f : TaskControl → TaskControl) → ((t : TaskControl) → Same t (f t)) → Occupied k (nextTask k) → Owned k
-    → k′ .tasks ≡ set (k .tasks) (nextTask k) (withState Running (f (slot k (nextTask k)))) → current k′ ≡ nextTask k → k′ .«next_id» ≡ k .«next_id» → k′ .mutexes ≡ k .mutexes → Owned k′
+    → k′ .tasks ≡ set (k .tasks) (nextTask k) (entered Running (f (slot k (nextTask k)))) → current k′ ≡ nextTask k → k′ .«next_id» ≡ k .«next_id» → k′ .mutexes ≡ k .mutexes → Owned k′
 run-stays k k′ f fit o w tasks now next mutexes =
     let t = fit (slot k (nextTask k)) in
-    let s : (j : ℕ) → Same (slot k j) (slot k′ j) = rw tasks (one-same k (nextTask k) (withState Running (f (slot k (nextTask k)))) (record { occupied = t .occupied; id = t .id; owned = t .owned })) in
+    let s : (j : ℕ) → Same (slot k j) (slot k′ j) = rw tasks (one-same k (nextTask k) (entered Running (f (slot k (nextTask k)))) (record { occupied = t .occupied; id = t .id; owned = t .owned })) in
     stays w (ap length tasks ∙ length-set (k .tasks) _ _) next mutexes (rw now (s (nextTask k) .occupied ∙ o)) (λ j _. s j)
 
 change-owned : (g : Kind) (k k′ : Kernel) → Change g k k′ → Owned k → Owned k′
 unfolding Scheduler.add
 change-owned g k k′ (task i u h c) w = let s = one-same k i u (task-same c) in stays w (length-set (k .tasks) i u) refl refl (s (current k) .occupied ∙ w .running) (λ j _. s j)
-change-owned g k k′ (sweep f e h) w =
-    let s : (j : ℕ) → Same (slot k j) (getD (map f (k .tasks)) j blankSlot) = λ j. rw (swept f e (k .tasks) j) (task-same (h (slot k j))) in
-    stays w (length-map (k .tasks) f) refl refl (s (current k) .occupied ∙ w .running) (λ j _. s j)
-change-owned g k k′ clock w = stays w refl refl refl (w .running) (λ j _. unmoved k j)
+change-owned g k k′ (begins o n h b f p q) w = let s = one-same k (current k) _ (record { occupied = refl; id = refl; owned = refl }) in stays w (length-set (k .tasks) _ _) refl refl (s (current k) .occupied ∙ w .running) (λ j _. s j)
+change-owned g k k′ (clock l a) w = stays w refl refl refl (w .running) (λ j _. unmoved k j)
 change-owned g k k′ (permits s n q h c) w = stays w refl refl refl (w .running) (λ j _. unmoved k j)
 change-owned g k k′ (flag v n q h c) w = stays w refl refl refl (w .running) (λ j _. unmoved k j)
 change-owned g k k′ (handoff m h q l c) w =
@@ -357,7 +357,7 @@ change-owned g k k′ (turned x h o) w = run-stays k k′ reloaded reload-same o
 
 -- ---- from fresh
 
-empty-table : (n j : ℕ) → getD (replicate n blankSlot) j blankSlot ≡ blankSlot
+pub empty-table : (n j : ℕ) → getD (replicate n blankSlot) j blankSlot ≡ blankSlot
 empty-table zero j = refl
 empty-table (suc n) zero = refl
 empty-table (suc n) (suc j) = empty-table n j
@@ -415,6 +415,7 @@ fresh-whole hz words e = record {
   running = refl;
   region = λ i h o. rw (idle-only hz words i o) (record { aligned = refl; multiple = refl; long = omega arith; inside = omega (arith, init-accepted hz words e .0 .low) });
   owned = λ i h o. owned-fits (freshKernel hz words) (fresh-owned hz words) i o;
+  limits = λ i h o. rw (idle-only hz words i o) (λ l. absurd (false≢true l));
   mutex-queue = λ o h. each-new (λ x. x .waiters .len ≤ 8) (omega arith) (omega arith) 4 o;
   semaphore-queue = λ o h. few (λ (x : Semaphore). x .waiters .len ≤ 8) _ newSemaphore (omega arith) (omega arith) 4 o;
   event-queue = λ o h. few (λ (x : Event). x .waiters .len ≤ 8) _ newEvent (omega arith) (omega arith) 4 o;

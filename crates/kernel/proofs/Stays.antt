@@ -10,16 +10,16 @@ use borrow.Author.Tests.{leb-false}
 use Rattle.base.specs.Below.{countBelow}
 use Rattle.base.proofs.Choices.{and-left, either}
 use Rattle.base.proofs.Loops.{count-same, count-le, count-one, set-each, set-default}
-use Rattle.kernel.specs.Types.{TaskId, OptionTaskId, Running, TaskControl, WaitQueue, Kernel}
-use Rattle.kernel.specs.Update.{withState, withTasks, withTaskCount, withNextId}
-use Rattle.kernel.specs.Control.{inState, holdsTask, blankSlot, newTask}
-use Rattle.kernel.specs.WaitQueue.{contains, isFull, pushed, enqueued, without, isEmpty, popped}
-use Rattle.kernel.specs.Kernel.{slot, charge, current, isOccupied, mutex, semaphore, event}
+use Rattle.kernel.specs.Types.{TaskId, OptionTaskId, Running, Blocked, LimitObject, TaskControl, WaitQueue, Kernel}
+use Rattle.kernel.specs.Update.{withLimit, withTasks, withTaskCount, withNextId}
+use Rattle.kernel.specs.Control.{inState, holdsTask, objectFits, entered, blankSlot, newTask}
+use Rattle.kernel.specs.WaitQueue.{contains, isFull, pushed, enqueued, without, isEmpty, popped, removed}
+use Rattle.kernel.specs.Kernel.{slot, charge, current, currentTask, isOccupied, mutex, semaphore, event}
 use Rattle.kernel.specs.Scheduler.{lowestEmpty, nextTask, nextId, contextSaved, reloaded}
 use Rattle.kernel.specs.Scheduler
 use Rattle.kernel.specs.Calls.{Kind, adding, reaping, starting, switching, ticking, owning, plain}
-use Rattle.kernel.proofs.Whole.{RegionFits, Whole}
-use Rattle.kernel.proofs.Changes.{TaskChange, same, state, asleep, ended, waiter, answered, less, full, saved, QueueChange, still, joined, left, charged, Change, task, sweep, clock, permits, flag, handoff, owner, added, reaped, begun, turned, raised, lowered, owner-each, swept, first-empty}
+use Rattle.kernel.proofs.Whole.{LimitFits, RegionFits, Whole}
+use Rattle.kernel.proofs.Changes.{TaskChange, same, state, asleep, ended, waiter, answered, passed, less, full, saved, QueueChange, still, joined, left, out, charged, Change, task, begins, clock, permits, flag, handoff, owner, added, reaped, begun, turned, raised, lowered, owner-each, first-empty}
 
 -- ---- a task, a queue
 
@@ -28,31 +28,37 @@ record SameTask (t u : TaskControl) : Type 0 where
   occupied : u .occupied ≡ t .occupied
   stack : u .stack ≡ t .stack
   owned : u .occupied ≡ true → t .«owned_mutex_count» ≤ 4 → u .«owned_mutex_count» ≤ 4
+  limits : u .occupied ≡ true → LimitFits t → LimitFits u
 
 task-same : {g : Kind} {t u : TaskControl} → TaskChange g t u → SameTask t u
 unfolding contextSaved
-task-same same = record { occupied = refl; stack = refl; owned = λ _ h. h }
-task-same (state s n) = record { occupied = refl; stack = refl; owned = λ _ h. h }
-task-same (asleep n) = record { occupied = refl; stack = refl; owned = λ _ h. h }
-task-same ended = record { occupied = refl; stack = refl; owned = λ _ h. h }
-task-same (waiter a) = record { occupied = refl; stack = refl; owned = λ _ h. h }
-task-same (answered r) = record { occupied = refl; stack = refl; owned = λ _ h. h }
-task-same (less n h) = record { occupied = refl; stack = refl; owned = λ _ h. h }
-task-same full = record { occupied = refl; stack = refl; owned = λ _ h. h }
-task-same (saved {t = t} sp) = either (SameTask t) (inState Running t) (λ _. record { occupied = refl; stack = refl; owned = λ _ h. h }) (λ _. record { occupied = refl; stack = refl; owned = λ _ h. h })
+task-same same = record { occupied = refl; stack = refl; owned = λ _ h. h; limits = λ _ h. h }
+task-same (state s n) = record { occupied = refl; stack = refl; owned = λ _ h. h; limits = λ _ _ l. absurd (false≢true l) }
+task-same (asleep n) = record { occupied = refl; stack = refl; owned = λ _ h. h; limits = λ _ _ l. absurd (false≢true l) }
+task-same ended = record { occupied = refl; stack = refl; owned = λ _ h. h; limits = λ _ _ l. absurd (false≢true l) }
+task-same (waiter a) = record { occupied = refl; stack = refl; owned = λ _ h. h; limits = λ _ h. h }
+task-same (answered r) = record { occupied = refl; stack = refl; owned = λ _ h. h; limits = λ _ h. h }
+task-same passed = record { occupied = refl; stack = refl; owned = λ _ h. h; limits = λ _ _ l. absurd (false≢true l) }
+task-same (less n h) = record { occupied = refl; stack = refl; owned = λ _ h. h; limits = λ _ h. h }
+task-same full = record { occupied = refl; stack = refl; owned = λ _ h. h; limits = λ _ h. h }
+task-same (saved {t = t} sp) = either (SameTask t) (inState Running t) (λ _. record { occupied = refl; stack = refl; owned = λ _ h. h; limits = λ _ _ l. absurd (false≢true l) }) (λ _. record { occupied = refl; stack = refl; owned = λ _ h. h; limits = λ _ h. h })
 
-run-same : {t u : TaskControl} → SameTask t u → SameTask t (withState Running u)
-run-same s = record { occupied = s .occupied; stack = s .stack; owned = s .owned }
+limit-same : (t : TaskControl) (o : LimitObject) (n : ℕ) → (t .occupied ≡ true → inState Blocked t ≡ true) → objectFits o ≡ true → SameTask t (withLimit o n t)
+limit-same t o n b f = record { occupied = refl; stack = refl; owned = λ _ h. h; limits = λ q _ _. (b q, f) }
+
+run-same : {t u : TaskControl} → SameTask t u → SameTask t (entered Running u)
+run-same s = record { occupied = s .occupied; stack = s .stack; owned = s .owned; limits = λ _ _ l. absurd (false≢true l) }
 
 reload-same : (t : TaskControl) → SameTask t (reloaded t)
 unfolding reloaded
 reload-same t = either (SameTask t) _ (λ _. task-same full) (λ _. task-same {g = plain} same)
 
-queue-fits : {a : TaskId} {q r : WaitQueue} → QueueChange a q r → q .len ≤ 8 → r .len ≤ 8
-unfolding enqueued pushed popped without
+queue-fits : {P : TaskId → Type 0} {a : TaskId} {q r : WaitQueue} → QueueChange P a q r → q .len ≤ 8 → r .len ≤ 8
+unfolding enqueued pushed popped removed without
 queue-fits still h = h
-queue-fits {a} (joined {q = q}) h = either (λ (x : WaitQueue). x .len ≤ 8) (contains q a) (λ _. h) (λ _. either (λ (x : WaitQueue). x .len ≤ 8) (isFull q) (λ _. h) (λ e. omega (arith, leb-false 8 (q .len) e)))
-queue-fits (left {r = r} c) h = let g = queue-fits c h in either (λ (x : WaitQueue). x .len ≤ 8) (isEmpty r) (λ _. g) (λ _. omega arith)
+queue-fits {a = a} (joined {q = q}) h = either (λ (x : WaitQueue). x .len ≤ 8) (contains q a) (λ _. h) (λ _. either (λ (x : WaitQueue). x .len ≤ 8) (isFull q) (λ _. h) (λ e. omega (arith, leb-false 8 (q .len) e)))
+queue-fits (out {q = q} b p) h = either (λ (x : WaitQueue). x .len ≤ 8) (contains q b) (λ _. omega arith) (λ _. h)
+queue-fits (left {r = r} p c) h = let g = queue-fits c h in either (λ (x : WaitQueue). x .len ≤ 8) (isEmpty r) (λ _. g) (λ _. omega arith)
 
 -- ---- a kernel whose tasks stay
 
@@ -68,6 +74,7 @@ stays {k} {k′} w arena hz count s slot-lt running m p v charges = record {
   running = s (current k′) .occupied ∙ running;
   region = λ i h o. rw (arena, s i .stack) (w .region i h (sym (s i .occupied) ∙ o));
   owned = λ i h o. s i .owned o (w .owned i h (sym (s i .occupied) ∙ o));
+  limits = λ i h o. s i .limits o (w .limits i h (sym (s i .occupied) ∙ o));
   mutex-queue = m;
   semaphore-queue = p;
   event-queue = v;
@@ -92,9 +99,9 @@ charges-stay k w i h =
 -- ---- add and reap
 
 -- one slot set, not idle's and not current
-slot-stays : {k : Kernel} (n next x : ℕ) (t : TaskControl) → Whole k → (0 ≡ x → ⊥) → (current k ≡ x → ⊥) → (t .occupied ≡ true → RegionFits (k .«arena_words») (t .stack)) → (t .occupied ≡ true → t .«owned_mutex_count» ≤ 4)
+slot-stays : {k : Kernel} (n next x : ℕ) (t : TaskControl) → Whole k → (0 ≡ x → ⊥) → (current k ≡ x → ⊥) → (t .occupied ≡ true → RegionFits (k .«arena_words») (t .stack)) → (t .occupied ≡ true → t .«owned_mutex_count» ≤ 4) → LimitFits t
     → n ≡ countBelow (λ i. getD (set (k .tasks) x t) i blankSlot .occupied) 16 → Whole (withTaskCount n (withNextId next (withTasks (set (k .tasks) x t) k)))
-slot-stays {k} n next x t w idle running region owned count = record {
+slot-stays {k} n next x t w idle running region owned limit count = record {
   arena = w .arena;
   clock = w .clock;
   current-slot = w .current-slot;
@@ -102,6 +109,7 @@ slot-stays {k} n next x t w idle running region owned count = record {
   running = rw (getD-set-other (k .tasks) x (current k) t blankSlot running) (w .running);
   region = set-each (λ j u. j < 16 → u .occupied ≡ true → RegionFits (k .«arena_words») (u .stack)) blankSlot (k .tasks) x t (λ _. region) (w .region);
   owned = set-each (λ j u. j < 16 → u .occupied ≡ true → u .«owned_mutex_count» ≤ 4) blankSlot (k .tasks) x t (λ _. owned) (w .owned);
+  limits = set-each (λ j u. j < 16 → u .occupied ≡ true → LimitFits u) blankSlot (k .tasks) x t (λ _ _. limit) (w .limits);
   mutex-queue = w .mutex-queue;
   semaphore-queue = w .semaphore-queue;
   event-queue = w .event-queue;
@@ -129,29 +137,29 @@ Besides ticking k k′ = Unit {0}
 Besides owning k k′ = OwnedFits k′
 Besides plain k k′ = Unit {0}
 
-moved-stays : (from to : OptionTaskId) (k : Kernel) → ((j : ℕ) → (slot (raised to (lowered from k)) j .occupied ≡ slot k j .occupied) × (slot (raised to (lowered from k)) j .stack ≡ slot k j .stack))
-moved-stays from to k = owner-each (λ y. (j : ℕ) → (slot y j .occupied ≡ slot k j .occupied) × (slot y j .stack ≡ slot k j .stack))
-    (λ y i n _ e. set-each (λ j t. (t .occupied ≡ slot k j .occupied) × (t .stack ≡ slot k j .stack)) blankSlot (y .tasks) i _ (e i) e) from to k (λ _. (refl, refl))
+moved-stays : (from to : OptionTaskId) (k : Kernel) → ((j : ℕ) → (slot (raised to (lowered from k)) j .occupied ≡ slot k j .occupied) × (slot (raised to (lowered from k)) j .stack ≡ slot k j .stack) × (LimitFits (slot k j) → LimitFits (slot (raised to (lowered from k)) j)))
+moved-stays from to k = owner-each (λ y. (j : ℕ) → (slot y j .occupied ≡ slot k j .occupied) × (slot y j .stack ≡ slot k j .stack) × (LimitFits (slot k j) → LimitFits (slot y j)))
+    (λ y i n _ e. set-each (λ j t. (t .occupied ≡ slot k j .occupied) × (t .stack ≡ slot k j .stack) × (LimitFits (slot k j) → LimitFits t)) blankSlot (y .tasks) i _ (e i) e) from to k (λ _. (refl, refl, λ h. h))
 
 pub change-stays : (g : Kind) (k k′ : Kernel) → Change g k k′ → Besides g k k′ → Whole k → Whole k′
 unfolding Scheduler.add holdsTask
 change-stays g k k′ (task i u h c) b w = stays w refl refl refl (one-stays k i u (task-same c)) (w .current-slot) (w .running) (w .mutex-queue) (w .semaphore-queue) (w .event-queue) (w .charges)
-change-stays g k k′ (sweep f e h) b w = stays w refl refl refl (λ j. rw (swept f e (k .tasks) j) (task-same (h (slot k j)))) (w .current-slot) (w .running) (w .mutex-queue) (w .semaphore-queue) (w .event-queue) (w .charges)
-change-stays g k k′ clock b w = stays w refl refl refl (unmoved k) (w .current-slot) (w .running) (w .mutex-queue) (w .semaphore-queue) (w .event-queue) (charges-stay k w)
+change-stays g k k′ (begins o n h b f p q) bs w = stays w refl refl refl (one-stays k (current k) _ (limit-same (currentTask k) o _ b f)) (w .current-slot) (w .running) (w .mutex-queue) (w .semaphore-queue) (w .event-queue) (w .charges)
+change-stays g k k′ (clock l a) b w = stays w refl refl refl (unmoved k) (w .current-slot) (w .running) (w .mutex-queue) (w .semaphore-queue) (w .event-queue) (charges-stay k w)
 change-stays g k k′ (permits s n q h c) b w = stays w refl refl refl (unmoved k) (w .current-slot) (w .running) (w .mutex-queue) (set-each (λ o y. o < 4 → y .waiters .len ≤ 8) _ (k .semaphores) s _ (λ l. queue-fits c (w .semaphore-queue s l)) (w .semaphore-queue)) (w .event-queue) (w .charges)
 change-stays g k k′ (flag v n q h c) b w = stays w refl refl refl (unmoved k) (w .current-slot) (w .running) (w .mutex-queue) (w .semaphore-queue) (set-each (λ o y. o < 4 → y .waiters .len ≤ 8) _ (k .events) v _ (λ l. queue-fits c (w .event-queue v l)) (w .event-queue)) (w .charges)
 change-stays g k k′ (handoff m h q l c) b w = stays w refl refl refl (unmoved k) (w .current-slot) (w .running) (set-each (λ o y. o < 4 → y .waiters .len ≤ 8) _ (k .mutexes) m _ (λ l. queue-fits c (w .mutex-queue m l)) (w .mutex-queue)) (w .semaphore-queue) (w .event-queue) (w .charges)
 change-stays g k k′ (owner m x from to h q l d c) b w =
     let s = moved-stays from to k in
-    stays w refl refl refl (λ j. record { occupied = s j .0; stack = s j .1; owned = λ o _. b j o }) (w .current-slot) (w .running) (set-each (λ o y. o < 4 → y .waiters .len ≤ 8) _ (k .mutexes) m _ (λ l. queue-fits c (w .mutex-queue m l)) (w .mutex-queue)) (w .semaphore-queue) (w .event-queue) (w .charges)
+    stays w refl refl refl (λ j. record { occupied = s j .0; stack = s j .1; owned = λ o _. b j o; limits = λ _. s j .2 }) (w .current-slot) (w .running) (set-each (λ o y. o < 4 → y .waiters .len ≤ 8) _ (k .mutexes) m _ (λ l. queue-fits c (w .mutex-queue m l)) (w .mutex-queue)) (w .semaphore-queue) (w .event-queue) (w .charges)
 change-stays g k k′ (added p r free region) b w =
     let x = lowestEmpty k in
     let t = newTask (nextId k) p r in
     let empty = first-empty k free in
     let more = count-one (isOccupied k) (λ i. getD (set (k .tasks) x t) i blankSlot .occupied) 16 x free empty (rw (getD-set-same (k .tasks) x t blankSlot (omega (arith, free)))) (λ i n. rw (getD-set-other (k .tasks) x i t blankSlot n)) in
-    slot-stays _ _ x t w (apart k 0 x (w .idle) empty) (apart k (current k) x (w .running) empty) (λ _. region) (λ _. lit≤ tt) (omega (arith, w .count, more))
+    slot-stays _ _ x t w (apart k 0 x (w .idle) empty) (apart k (current k) x (w .running) empty) (λ _. region) (λ _. lit≤ tt) (λ l. absurd (false≢true l)) (omega (arith, w .count, more))
 change-stays g k k′ (reaped x h idle running on) b w =
     let less = count-one (λ i. getD (set (k .tasks) x blankSlot) i blankSlot .occupied) (isOccupied k) 16 x h (rw (set-default blankSlot (k .tasks) x)) (and-left _ _ on) (λ i n. rw (getD-set-other (k .tasks) x i blankSlot blankSlot n)) in
-    slot-stays _ (k .«next_id») x blankSlot w idle running (λ o. absurd (false≢true o)) (λ _. lit≤ tt) (omega (arith, w .count, less))
+    slot-stays _ (k .«next_id») x blankSlot w idle running (λ o. absurd (false≢true o)) (λ _. lit≤ tt) (λ l. absurd (false≢true l)) (omega (arith, w .count, less))
 change-stays g k k′ (begun x h o) b w = stays w refl refl refl (one-stays k (nextTask k) _ (run-same (task-same {g = plain} same))) h o (w .mutex-queue) (w .semaphore-queue) (w .event-queue) (w .charges)
 change-stays g k k′ (turned x h o) b w = stays w refl refl refl (one-stays k (nextTask k) _ (run-same (reload-same (slot k (nextTask k))))) h o (w .mutex-queue) (w .semaphore-queue) (w .event-queue) (w .charges)

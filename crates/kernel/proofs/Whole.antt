@@ -8,9 +8,9 @@ use Rattle.base.specs.Choice.{every}
 use Rattle.base.specs.Below.{countBelow}
 use Rattle.base.proofs.Choices.{and-left, and-right, implied, implies, every-at}
 use Rattle.base.proofs.Loops.{all-at, all-each, count-le}
-use Rattle.kernel.specs.Types.{StackRegion, Kernel}
-use Rattle.kernel.specs.Control.{regionEnd, regionFits}
-use Rattle.kernel.specs.Kernel.{slot, current, currentTask, charge, mutex, semaphore, event, arenaFits, isOccupied, regionWhole, ownedWhole, queuesWhole, chargeWhole, whole}
+use Rattle.kernel.specs.Types.{StackRegion, Blocked, TaskControl, Kernel}
+use Rattle.kernel.specs.Control.{inState, hasLimit, objectFits, regionEnd, regionFits}
+use Rattle.kernel.specs.Kernel.{slot, current, currentTask, charge, mutex, semaphore, event, arenaFits, isOccupied, regionWhole, ownedWhole, queuesWhole, chargeWhole, limitWhole, whole}
 
 pub record RegionFits (words : ℕ) (r : StackRegion) : Type 0 where
   pub aligned : r .start % 4 ≡ 0
@@ -44,6 +44,10 @@ pub fits-arena : (words : ℕ) → ArenaFits words → arenaFits words ≡ true
 unfolding arenaFits
 fits-arena words f = rw (le-leb _ _ (f .low), le-leb _ _ (f .high))
 
+-- what a whole kernel asks of a task's limit
+abbrev pub LimitFits : TaskControl → Type 0
+LimitFits t = hasLimit t ≡ true → (inState Blocked t ≡ true) × (objectFits (t .«limit_object») ≡ true)
+
 pub record Whole (k : Kernel) : Type 0 where
   pub arena : ArenaFits (k .«arena_words»)
   pub clock : 1 ≤ k .hz
@@ -56,6 +60,7 @@ pub record Whole (k : Kernel) : Type 0 where
   pub semaphore-queue : (o : ℕ) → o < 4 → semaphore k o .waiters .len ≤ 8
   pub event-queue : (o : ℕ) → o < 4 → event k o .waiters .len ≤ 8
   pub charges : (i : ℕ) → i < 16 → charge k i ≤ k .«tick_count»
+  pub limits : (i : ℕ) → i < 16 → slot k i .occupied ≡ true → LimitFits (slot k i)
   pub count : k .«task_count» ≡ countBelow (isOccupied k) 16
   pub tasks : k .«task_count» ≤ 16
 
@@ -75,6 +80,9 @@ is-whole k e =
       semaphore-queue = λ o h. leb-true _ _ (and-right (leb (mutex k o .waiters .len) 8) (leb (semaphore k o .waiters .len) 8) (and-left _ (leb (event k o .waiters .len) 8) (queues o (every-at _ 6 e) h)));
       event-queue = λ o h. leb-true _ _ (and-right (leb (mutex k o .waiters .len) 8 && leb (semaphore k o .waiters .len) 8) (leb (event k o .waiters .len) 8) (queues o (every-at _ 6 e) h));
       charges = λ i h. leb-true _ _ (all-at (chargeWhole k) 16 i (every-at _ 9 e) h);
+      limits = λ i h o l.
+          let fits = implied (slot k i .occupied && hasLimit (slot k i)) _ (rw (o, l)) (all-at (limitWhole k) 16 i (every-at _ 10 e) h) in
+          (and-left _ _ fits, and-right (inState Blocked (slot k i)) _ fits);
       count = eqb-true _ _ (every-at _ 7 e);
       tasks = subst (λ (n : ℕ). n ≤ 16) (sym (eqb-true _ _ (every-at _ 7 e))) (count-le (isOccupied k) 16);
     }
@@ -93,4 +101,5 @@ whole-is k w =
       eq-eqb _ _ (w .count),
       all-each (ownedWhole k) 16 (λ i h. implies _ _ (λ o. le-leb _ _ (w .owned i h o))),
       all-each (chargeWhole k) 16 (λ i h. le-leb _ _ (w .charges i h)),
+      all-each (limitWhole k) 16 (λ i h. implies (slot k i .occupied && hasLimit (slot k i)) _ (λ o. let f = w .limits i h (and-left _ _ o) (and-right (slot k i .occupied) _ o) in rw (f .0, f .1))),
     )

@@ -41,9 +41,11 @@ pub data Call : Type 0 where
   try-lock : (mutex : ℕ) → Call
   unlock : (mutex : ℕ) → Call
   acquire : (semaphore : ℕ) → Call
+  acquire-within : (semaphore ticks : ℕ) → Call
   try-acquire : (semaphore : ℕ) → Call
   release : (semaphore : ℕ) → Call
   event-wait : (event : ℕ) → Call
+  event-wait-within : (event ticks : ℕ) → Call
   signal : (event : ℕ) → Call
   list : (arena : List ℕ) (records : List TaskInfo) → Call
 
@@ -76,9 +78,11 @@ kind (lock m) = owning
 kind (try-lock m) = owning
 kind (unlock m) = owning
 kind (acquire s) = plain
+kind (acquire-within s ticks) = plain
 kind (try-acquire s) = plain
 kind (release s) = plain
 kind (event-wait e) = plain
+kind (event-wait-within e ticks) = plain
 kind (signal e) = plain
 kind (list arena records) = plain
 
@@ -106,7 +110,7 @@ otherLength k arena = 1 when not (eqb (length arena) (k .«arena_words»))
 abbrev pub noObject : ℕ → Check
 noObject o = 20 when ltb 3 o
 
--- status, block, sleep, exit, wait, current id, switch, lock, try lock, unlock, acquire, event wait: 2 not started
+-- status, block, sleep, exit, wait, current id, switch, lock, try lock, unlock, acquire, event wait, and both with a limit: 2 not started
 abbrev pub notStarted : Kernel → Check
 notStarted k = 2 when not (k .started)
 
@@ -171,9 +175,21 @@ checks k (unlock m) =
     ∷ (15 when eqb (slot k (slotOf k (currentId k)) .«owned_mutex_count») 0)
     ∷ []
 checks k (acquire s) = noObject s ∷ notStarted k ∷ (12 when not (hasPermit s k) && noRoom k (semaphore k s .waiters)) ∷ []
+checks k (acquire-within s ticks) =
+    noObject s
+    ∷ notStarted k
+    ∷ (7 when eqb ticks 0)
+    ∷ (12 when not (hasPermit s k) && noRoom k (semaphore k s .waiters))
+    ∷ []
 checks k (try-acquire s) = noObject s ∷ []
 checks k (release s) = noObject s ∷ (19 when eqb (semaphore k s .count) 4294967295) ∷ []
 checks k (event-wait e) = noObject e ∷ notStarted k ∷ (12 when not (event k e .signaled) && noRoom k (event k e .waiters)) ∷ []
+checks k (event-wait-within e ticks) =
+    noObject e
+    ∷ notStarted k
+    ∷ (7 when eqb ticks 0)
+    ∷ (12 when not (event k e .signaled) && noRoom k (event k e .waiters))
+    ∷ []
 checks k (signal e) = noObject e ∷ []
 checks k (list arena records) = otherLength k arena ∷ (21 when ltb (length records) (k .«task_count»)) ∷ []
 
@@ -205,9 +221,11 @@ value k (lock m) = YesNo (lockAnswer m k)
 value k (try-lock m) = YesNo (not (mutex k m .locked))
 value k (unlock m) = YesNo (not (isEmpty (mutex k m .waiters)))
 value k (acquire s) = YesNo (hasPermit s k)
+value k (acquire-within s ticks) = YesNo (hasPermit s k)
 value k (try-acquire s) = YesNo (hasPermit s k)
 value k (release s) = YesNo (wakeOne (semaphore k s .waiters) k .woke)
 value k (event-wait e) = YesNo (event k e .signaled)
+value k (event-wait-within e ticks) = YesNo (event k e .signaled)
 value k (signal e) = YesNo (wakeOne (event k e .waiters) k .woke)
 value k (list arena records) = Count (k .«task_count»)
 
@@ -242,9 +260,11 @@ effect k (lock m) = Mutex.lock m k
 effect k (try-lock m) = Mutex.tryLock m k
 effect k (unlock m) = Mutex.unlock m k
 effect k (acquire s) = Semaphore.acquire s k
+effect k (acquire-within s ticks) = Semaphore.acquireWithin s ticks k
 effect k (try-acquire s) = Semaphore.tryAcquire s k
 effect k (release s) = Semaphore.release s k
 effect k (event-wait e) = Event.eventWait e k
+effect k (event-wait-within e ticks) = Event.eventWaitWithin e ticks k
 effect k (signal e) = Event.signal e k
 effect k (list arena records) = k
 

@@ -7,8 +7,8 @@ use lib.IntN.{pos}
 use lib.ListN.{length, getD, take, drop, replicate}
 use Rattle.base.specs.Choice.{if_then_else_, every}
 use Rattle.base.specs.Below.{allBelow, lowestBelow}
-use Rattle.kernel.specs.Types.{TaskId, Priority, OptionTaskId, None, Some, TaskState, Ready, Running, Blocked, Sleeping, Suspended, Terminated, StackRegion, TaskControl}
-use Rattle.kernel.specs.Update.{withState}
+use Rattle.kernel.specs.Types.{TaskId, Priority, OptionTaskId, None, Some, TaskState, Ready, Running, Blocked, Sleeping, Suspended, Terminated, StackRegion, LimitObject, NoLimit, AtSemaphore, AtEvent, TaskControl}
+use Rattle.kernel.specs.Update.{withState, withLimit, withLimitPassed}
 
 -- ---- states and ids
 
@@ -45,19 +45,48 @@ names (Some b) a = eqb (b .0) (a .0)
 
 -- what an emptied slot is, all zero; a slot that is not occupied may hold anything
 abbrev pub blankSlot : TaskControl
-blankSlot = record { occupied = false; id = record { 0 = 0 }; state = Ready; priority = record { 0 = 0 }; «wake_tick» = 0; «time_slice» = 0; «remaining_slice» = 0; «owned_mutex_count» = 0; waiter = None; stack = record { start = 0; size = 0 }; sp = 0; result = pos 0 }
+blankSlot = record { occupied = false; id = record { 0 = 0 }; state = Ready; priority = record { 0 = 0 }; «wake_tick» = 0; «time_slice» = 0; «remaining_slice» = 0; «owned_mutex_count» = 0; waiter = None; stack = record { start = 0; size = 0 }; sp = 0; result = pos 0; «limit_object» = NoLimit; «limit_tick» = 0; «limit_passed» = false }
 
 -- `TaskControl::new`
 abbrev pub newTask : TaskId → Priority → StackRegion → TaskControl
-newTask i p r = record { occupied = true; id = i; state = Ready; priority = p; «wake_tick» = 0; «time_slice» = 5; «remaining_slice» = 5; «owned_mutex_count» = 0; waiter = None; stack = r; sp = r .start + r .size; result = pos 0 }
+newTask i p r = record { occupied = true; id = i; state = Ready; priority = p; «wake_tick» = 0; «time_slice» = 5; «remaining_slice» = 5; «owned_mutex_count» = 0; waiter = None; stack = r; sp = r .start + r .size; result = pos 0; «limit_object» = NoLimit; «limit_tick» = 0; «limit_passed» = false }
 
 -- the slot is occupied, by a task in that state
 unfoldable pub holdsTask : TaskState → TaskControl → Bool
 holdsTask s t = t .occupied && inState s t
 
+-- ---- the limit of a wait (02, W-202)
+
+-- A limit is kept as the object that is waited for, semaphore or event with its number, and the tick at which it ends. Without one nothing is kept: `NoLimit`, and tick 0.
+abbrev pub isLimit : LimitObject → Bool
+isLimit NoLimit = false
+isLimit (AtSemaphore s) = true
+isLimit (AtEvent e) = true
+
+abbrev pub hasLimit : TaskControl → Bool
+hasLimit t = isLimit (t .«limit_object»)
+
+-- a limit ends, and the mark says whether by its own tick; without one the mark stays
+abbrev pub limitEnded : Bool → TaskControl → TaskControl
+limitEnded own t = withLimitPassed (if hasLimit t then own else t .«limit_passed») (withLimit NoLimit 0 t)
+
+-- Every state is entered so, and what enters a state ends a limit: a wake, status, sleep, exit, blocking once more, being picked.
+abbrev pub entered : TaskState → TaskControl → TaskControl
+entered s t = limitEnded false (withState s t)
+
+-- the limit is over by its own tick
+abbrev pub expired : TaskControl → TaskControl
+expired t = limitEnded true (withState Ready t)
+
+-- the object's number is below 4
+abbrev pub objectFits : LimitObject → Bool
+objectFits NoLimit = true
+objectFits (AtSemaphore s) = ltb s 4
+objectFits (AtEvent e) = ltb e 4
+
 -- Blocked becomes Ready, anything else stays
 unfoldable pub unblocked : TaskControl → TaskControl
-unblocked t = if inState Blocked t then withState Ready t else t
+unblocked t = if inState Blocked t then entered Ready t else t
 
 -- ---- the region, and the arena's words under it
 

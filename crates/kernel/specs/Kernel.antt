@@ -6,9 +6,9 @@ use lib.Dec.{eqb, leb, ltb}
 use lib.ListN.{getD, set, replicate}
 use Rattle.base.specs.Choice.{if_then_else_, every}
 use Rattle.base.specs.Below.{allBelow, countBelow, lowestBelow}
-use Rattle.kernel.specs.Types.{TaskId, None, TaskControl, WaitQueue, Mutex, Semaphore, Event, Kernel}
+use Rattle.kernel.specs.Types.{TaskId, None, Blocked, TaskControl, WaitQueue, Mutex, Semaphore, Event, Kernel}
 use Rattle.kernel.specs.Update.{withTasks, withMutexes, withSemaphores, withEvents, withTimeSlice}
-use Rattle.kernel.specs.Control.{sameId, blankSlot, newTask, regionFits}
+use Rattle.kernel.specs.Control.{inState, sameId, hasLimit, objectFits, blankSlot, newTask, regionFits}
 use Rattle.kernel.specs.WaitQueue.{emptyQueue}
 
 -- ---- reading and replacing one of its parts
@@ -91,7 +91,11 @@ queuesWhole k o = leb (mutex k o .waiters .len) 8 && leb (semaphore k o .waiters
 abbrev pub chargeWhole : Kernel → ℕ → Bool
 chargeWhole k i = leb (charge k i) (k .«tick_count»)
 
--- 01's whole kernel, in its order
+-- a limit in a Blocked task only, with an object number below 4
+abbrev pub limitWhole : Kernel → ℕ → Bool
+limitWhole k i = not (slot k i .occupied && hasLimit (slot k i)) || (inState Blocked (slot k i) && objectFits (slot k i .«limit_object»))
+
+-- 01's whole kernel, in its order; then what 02 adds
 unfoldable pub whole : Kernel → Bool
 whole k =
     every (
@@ -105,6 +109,7 @@ whole k =
     ∷ eqb (k .«task_count») (countBelow (isOccupied k) 16)
     ∷ allBelow (ownedWhole k) 16
     ∷ allBelow (chargeWhole k) 16
+    ∷ allBelow (limitWhole k) 16
     ∷ [])
 
 -- ---- blank and fresh

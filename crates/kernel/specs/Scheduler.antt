@@ -1,17 +1,16 @@
 -- What each call on the scheduler does where nothing refuses it (sched/scheduler.rs).
 use Prim.Native.Nat.{ℕ, zero, suc, _+_, _-_, _%_, _^_, min}
 use mathlib.Core.Bool.{Bool, true, false, _&&_, _||_, not}
-use mathlib.Core.List.{map}
 use lib.Dec.{eqb, leb, ltb}
 use lib.IntN.{ℤ}
 use lib.ListN.{set}
 use Rattle.base.specs.Choice.{if_then_else_}
 use Rattle.base.specs.Below.{allBelow, anyBelow, lowestBelow}
-use Rattle.kernel.specs.Types.{TaskId, Priority, OptionTaskId, None, Some, TaskState, Ready, Running, Blocked, Sleeping, Terminated, StackRegion, TaskControl, WaitQueue, Kernel}
-use Rattle.kernel.specs.Update.{withState, withWakeTick, withRemaining, withOwned, withWaiter, withSp, withResult, withTasks, withCharges, withTickCount, withStarted, withCurrent, withTaskCount, withNextId}
-use Rattle.kernel.specs.Control.{inState, holdsTask, unblocked, blankSlot, newTask, regionsOverlap}
-use Rattle.kernel.specs.WaitQueue.{head, popped}
-use Rattle.kernel.specs.Kernel.{slot, charge, at, current, currentTask, currentId, slotOf, isPresent, atId}
+use Rattle.kernel.specs.Types.{TaskId, Priority, OptionTaskId, None, Some, TaskState, Ready, Running, Blocked, Sleeping, Terminated, StackRegion, LimitObject, NoLimit, AtSemaphore, AtEvent, TaskControl, WaitQueue, Kernel}
+use Rattle.kernel.specs.Update.{withLimit, withWakeTick, withRemaining, withOwned, withWaiter, withSp, withResult, withTasks, withCharges, withTickCount, withStarted, withCurrent, withTaskCount, withNextId}
+use Rattle.kernel.specs.Control.{inState, holdsTask, hasLimit, entered, expired, unblocked, blankSlot, newTask, regionsOverlap}
+use Rattle.kernel.specs.WaitQueue.{head, popped, removed}
+use Rattle.kernel.specs.Kernel.{slot, charge, at, current, currentTask, currentId, slotOf, isPresent, atId, semaphore, event, withSemaphore, withEvent}
 
 -- ---- next_task
 
@@ -45,17 +44,21 @@ nextTask k = pick (isReady k) (priorityOf k) (current k)
 -- ---- state calls
 
 abbrev pub setStatus : TaskState → Kernel → Kernel
-setStatus s k = at (current k) (withState s) k
+setStatus s k = at (current k) (entered s) k
 
 abbrev pub block : Kernel → Kernel
 block k = setStatus Blocked k
 
--- the tick at which a sleep of so many ticks ends, held at 2^64 - 1
+-- the tick at which a sleep or a limit of so many ticks ends, held at 2^64 - 1
 abbrev pub wakeTick : ℕ → Kernel → ℕ
 wakeTick ticks k = min (k .«tick_count» + ticks) (2 ^ 64 - 1)
 
 abbrev pub sleep : ℕ → Kernel → Kernel
-sleep ticks k = at (current k) (λ t. withWakeTick (wakeTick ticks k) (withState Sleeping t)) k
+sleep ticks k = at (current k) (λ t. withWakeTick (wakeTick ticks k) (entered Sleeping t)) k
+
+-- a limit of so many ticks begins, for the wait of current at that object
+abbrev pub limited : LimitObject → ℕ → Kernel → Kernel
+limited o ticks k = at (current k) (withLimit o (wakeTick ticks k)) k
 
 abbrev pub wake : TaskId → Kernel → Kernel
 wake a k = atId a unblocked k
@@ -69,7 +72,7 @@ wakeWaiter None k = k
 wakeWaiter (Some a) k = wake a k
 
 abbrev pub terminated : TaskControl → TaskControl
-terminated t = withWaiter None (withWakeTick 0 (withRemaining 0 (withState Terminated t)))
+terminated t = withWaiter None (withWakeTick 0 (withRemaining 0 (entered Terminated t)))
 
 -- current Terminated, its waiter taken, and that one woken if it is present and Blocked
 unfoldable pub exit : Kernel → Kernel
@@ -139,19 +142,42 @@ add p r k = withTaskCount (k .«task_count» + 1) (withNextId (k .«next_id» + 
 unfoldable pub isDue : ℕ → TaskControl → Bool
 isDue now t = holdsTask Sleeping t && leb (t .«wake_tick») now
 
+-- a limit that ends at now or before
+unfoldable pub isLimitDue : ℕ → TaskControl → Bool
+isLimitDue now t = t .occupied && hasLimit t && leb (t .«limit_tick») now
+
+-- what a tick makes of a task
 unfoldable pub woken : ℕ → TaskControl → TaskControl
-woken now t = if isDue now t then withState Ready t else t
+woken now t = if isLimitDue now t then expired t else if isDue now t then entered Ready t else t
+
+-- id a out of that object's queue, where it waits first
+abbrev pub unqueued : LimitObject → TaskId → Kernel → Kernel
+unqueued NoLimit a k = k
+unqueued (AtSemaphore s) a k = withSemaphore s (record { count = semaphore k s .count; waiters = removed (semaphore k s .waiters) a }) k
+unqueued (AtEvent e) a k = withEvent e (record { signaled = event k e .signaled; waiters = removed (event k e .waiters) a }) k
+
+-- slot i at a tick, against the queues as they then are
+unfoldable pub visited : ℕ → ℕ → Kernel → Kernel
+visited now i k = at i (woken now) (if isLimitDue now (slot k i) then unqueued (slot k i .«limit_object») (slot k i .id) k else k)
+
+-- the walk over the first n slots, one after another
+unfoldable pub walked : ℕ → ℕ → Kernel → Kernel
+walked now zero k = k
+walked now (suc n) k = visited now n (walked now n k)
 
 -- one tick off the slice, not below 0; at 0 it becomes time_slice
 abbrev pub spent : TaskControl → TaskControl
 spent t = if eqb (t .«remaining_slice» - 1) 0 then withRemaining (t .«time_slice») t else withRemaining (t .«remaining_slice» - 1) t
 
--- tick_count up, the charge of current up if started, and every sleeper that is due Ready
-unfoldable pub advanced : Kernel → Kernel
-advanced k =
-    let now = k .«tick_count» + 1 in
+-- then tick_count up, and the charge of current up if started
+unfoldable pub clocked : Kernel → Kernel
+clocked k =
     let charges = if k .started then set (k .charges) (current k) (charge k (current k) + 1) else k .charges in
-    withTickCount now (withCharges charges (withTasks (map (woken now) (k .tasks)) k))
+    withTickCount (k .«tick_count» + 1) (withCharges charges k)
+
+-- the raised tick_count decides who is woken
+unfoldable pub advanced : Kernel → Kernel
+advanced k = clocked (walked (k .«tick_count» + 1) 16 k)
 
 abbrev pub currentRuns : Kernel → Bool
 currentRuns k = inState Running (currentTask k)
@@ -164,7 +190,7 @@ sliced k = if k .started && currentRuns k then at (current k) spent k else k
 unfoldable pub tick : Kernel → Kernel
 tick k = sliced (advanced k)
 
--- whether a switch is wanted: current does not run, a sleeper woke, or the slice reaches 0
+-- whether a switch is wanted: current does not run, a sleeper woke or a limit ended, or the slice reaches 0
 unfoldable pub wants : Bool → Kernel → Bool
 wants woke k =
     if not (k .started) then false
@@ -172,13 +198,15 @@ wants woke k =
     else woke || eqb (currentTask k .«remaining_slice» - 1) 0
 
 unfoldable pub wantsSwitch : Kernel → Bool
-wantsSwitch k = wants (anyBelow (λ i. isDue (k .«tick_count» + 1) (slot k i)) 16) (advanced k)
+wantsSwitch k =
+    let now = k .«tick_count» + 1 in
+    wants (anyBelow (λ i. isLimitDue now (slot k i) || isDue now (slot k i)) 16) (advanced k)
 
 -- ---- start and switch
 
 -- slot i becomes current, and f of its task Running
 abbrev pub dispatched : ℕ → (TaskControl → TaskControl) → Kernel → Kernel
-dispatched i f k = withCurrent i (at i (λ t. withState Running (f t)) k)
+dispatched i f k = withCurrent i (at i (λ t. entered Running (f t)) k)
 
 -- no reload of the slice
 unfoldable pub start : Kernel → Kernel
@@ -186,7 +214,7 @@ start k = dispatched (nextTask k) (λ t. t) (withStarted true k)
 
 -- current's sp stored, Running made Ready
 unfoldable pub contextSaved : ℕ → TaskControl → TaskControl
-contextSaved sp t = if inState Running t then withState Ready (withSp sp t) else withSp sp t
+contextSaved sp t = if inState Running t then entered Ready (withSp sp t) else withSp sp t
 
 unfoldable pub reloaded : TaskControl → TaskControl
 reloaded t = if eqb (t .«remaining_slice») 0 then withRemaining (t .«time_slice») t else t

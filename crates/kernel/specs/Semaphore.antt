@@ -3,10 +3,10 @@ use Prim.Native.Nat.{ℕ, _+_, _-_}
 use mathlib.Core.Bool.{Bool}
 use lib.Dec.{ltb}
 use Rattle.base.specs.Choice.{if_then_else_}
-use Rattle.kernel.specs.Types.{Kernel}
+use Rattle.kernel.specs.Types.{AtSemaphore, Kernel}
 use Rattle.kernel.specs.WaitQueue.{enqueued}
 use Rattle.kernel.specs.Kernel.{currentId, semaphore, withSemaphore}
-use Rattle.kernel.specs.Scheduler.{block, wakeOne}
+use Rattle.kernel.specs.Scheduler.{block, limited, wakeOne}
 
 abbrev pub hasPermit : ℕ → Kernel → Bool
 hasPermit s k = ltb 0 (semaphore k s .count)
@@ -19,6 +19,10 @@ blockedOnSemaphore s k = withSemaphore s (record { count = semaphore k s .count;
 
 unfoldable pub acquire : ℕ → Kernel → Kernel
 acquire s k = if hasPermit s k then permitTaken s k else blockedOnSemaphore s k
+
+-- the form with a limit, which begins only where the call blocks (02, W-202)
+unfoldable pub acquireWithin : ℕ → ℕ → Kernel → Kernel
+acquireWithin s ticks k = if hasPermit s k then permitTaken s k else limited (AtSemaphore s) ticks (blockedOnSemaphore s k)
 
 unfoldable pub tryAcquire : ℕ → Kernel → Kernel
 tryAcquire s k = if hasPermit s k then permitTaken s k else k

@@ -4,6 +4,8 @@ pub use Rattle.kernel.specs.declared.control.TaskId.{TaskId}
 pub use Rattle.kernel.specs.declared.control.Priority.{Priority}
 pub use Rattle.kernel.specs.declared.control.OptionTaskId.{OptionTaskId}
 pub use Rattle.kernel.specs.declared.control.OptionTaskId.the-variants.{None, Some}
+pub use Rattle.kernel.specs.declared.control.LimitObject.{LimitObject}
+pub use Rattle.kernel.specs.declared.control.LimitObject.the-variants.{NoLimit, AtSemaphore, AtEvent}
 pub use Rattle.kernel.specs.declared.control.TaskState.{TaskState}
 pub use Rattle.kernel.specs.declared.control.TaskState.the-variants.{Ready, Running, Blocked, Sleeping, Suspended, Terminated}
 pub use Rattle.kernel.specs.declared.control.StackRegion.{StackRegion}

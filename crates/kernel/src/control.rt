@@ -1,7 +1,8 @@
 // Tasks and their slots in the table: task/control.rs of the source.
 ghost use mathlib.Core.Path.{_≡_};
-ghost use Rattle.kernel.specs.Update.{withState, withWaiter, withTimeSlice};
-ghost use Rattle.kernel.specs.Control.{stateNumber, inState, sameId, names, blankSlot};
+ghost use Rattle.base.specs.Choice.{if_then_else_};
+ghost use Rattle.kernel.specs.Update.{withState, withWaiter, withTimeSlice, withLimit};
+ghost use Rattle.kernel.specs.Control.{stateNumber, inState, sameId, names, isLimit, hasLimit, objectFits, limitEnded, entered, expired, blankSlot};
 
 // A place in the table, 0 to 15; never taken for a task's id.
 pub struct SlotIndex(pub usize);
@@ -32,18 +33,30 @@ pub struct StackRegion {
     pub size: u32,
 }
 
+// The object of a wait that has a limit, with its number.
+pub enum LimitObject {
+    NoLimit,
+    AtSemaphore(u8),
+    AtEvent(u8),
+}
+
 // A slot of the table: the source's `Option<TaskControl>`, where `occupied` stands for `Some`. `sp` and `result` stand for the processor context.
+// The order keeps it at 64 bytes.
 pub struct TaskControl {
     pub occupied: bool,
-    pub id: TaskId,
     pub state: TaskState,
     pub priority: Priority,
-    pub wake_tick: u64,
+    // Whether the last limit to end was ended by its own tick.
+    pub limit_passed: bool,
+    pub limit_object: LimitObject,
+    pub stack: StackRegion,
+    pub id: TaskId,
     pub time_slice: u32,
+    pub wake_tick: u64,
+    pub limit_tick: u64,
     pub remaining_slice: u32,
     pub owned_mutex_count: u32,
     pub waiter: OptionTaskId,
-    pub stack: StackRegion,
     pub sp: u32,
     pub result: i32,
 }
@@ -76,6 +89,29 @@ impl OptionTaskId {
         match self {
             OptionTaskId::None => false,
             OptionTaskId::Some(other) => other.0 == id.0,
+        }
+    }
+}
+
+impl LimitObject {
+    pub fn is_limit(self) -> bool
+        ensures { λ r. ⌜ r ≡ isLimit self ⌝ }
+    {
+        match self {
+            LimitObject::NoLimit => false,
+            LimitObject::AtSemaphore(_) => true,
+            LimitObject::AtEvent(_) => true,
+        }
+    }
+
+    // Whether the object's number is below 4.
+    pub fn fits(self) -> bool
+        ensures { λ r. ⌜ r ≡ objectFits self ⌝ }
+    {
+        match self {
+            LimitObject::NoLimit => true,
+            LimitObject::AtSemaphore(s) => s < 4,
+            LimitObject::AtEvent(e) => e < 4,
         }
     }
 }
@@ -116,15 +152,18 @@ impl TaskControl {
     {
         TaskControl {
             occupied: false,
-            id: TaskId(0),
             state: TaskState::Ready,
             priority: Priority(0),
-            wake_tick: 0,
+            limit_passed: false,
+            limit_object: LimitObject::NoLimit,
+            stack: StackRegion { start: 0, size: 0 },
+            id: TaskId(0),
             time_slice: 0,
+            wake_tick: 0,
+            limit_tick: 0,
             remaining_slice: 0,
             owned_mutex_count: 0,
             waiter: OptionTaskId::None,
-            stack: StackRegion { start: 0, size: 0 },
             sp: 0,
             result: 0,
         }
@@ -175,27 +214,58 @@ impl TaskControl {
         self
     }
 
-    pub fn with_state(self, state: TaskState) -> Self
-        ensures { λ r. ⌜ r ≡ withState state self ⌝ }
+    // The mark once a limit has ended, by its own tick or not; without one it stays.
+    fn passed(self, own: bool) -> bool
+        ensures { λ r. ⌜ r ≡ (if hasLimit self then own else self .«limit_passed») ⌝ }
+    {
+        let object = self.limit_object;
+        if object.is_limit() {
+            own
+        } else {
+            self.limit_passed
+        }
+    }
+
+    // In that state; a limit ends, by its own tick or not.
+    fn ended(self, state: TaskState, own: bool) -> Self
+        ensures { λ r. ⌜ r ≡ limitEnded own (withState state self) ⌝ }
     {
         let id = self.id;
         let priority = self.priority;
         let waiter = self.waiter;
         let stack = self.stack;
+        let passed = self.passed(own);
         TaskControl {
             occupied: self.occupied,
-            id,
             state,
             priority,
-            wake_tick: self.wake_tick,
+            limit_passed: passed,
+            limit_object: LimitObject::NoLimit,
+            stack,
+            id,
             time_slice: self.time_slice,
+            wake_tick: self.wake_tick,
+            limit_tick: 0,
             remaining_slice: self.remaining_slice,
             owned_mutex_count: self.owned_mutex_count,
             waiter,
-            stack,
             sp: self.sp,
             result: self.result,
         }
+    }
+
+    // In that state; what enters a state ends a limit.
+    pub fn entered(self, state: TaskState) -> Self
+        ensures { λ r. ⌜ r ≡ entered state self ⌝ }
+    {
+        self.ended(state, false)
+    }
+
+    // Ready, its limit ended by its own tick.
+    pub fn expired(self) -> Self
+        ensures { λ r. ⌜ r ≡ expired self ⌝ }
+    {
+        self.ended(TaskState::Ready, true)
     }
 
     pub fn with_waiter(self, waiter: OptionTaskId) -> Self
@@ -205,17 +275,49 @@ impl TaskControl {
         let state = self.state;
         let priority = self.priority;
         let stack = self.stack;
+        let limit_object = self.limit_object;
         TaskControl {
             occupied: self.occupied,
-            id,
             state,
             priority,
-            wake_tick: self.wake_tick,
+            limit_passed: self.limit_passed,
+            limit_object,
+            stack,
+            id,
             time_slice: self.time_slice,
+            wake_tick: self.wake_tick,
+            limit_tick: self.limit_tick,
             remaining_slice: self.remaining_slice,
             owned_mutex_count: self.owned_mutex_count,
             waiter,
+            sp: self.sp,
+            result: self.result,
+        }
+    }
+
+    // A limit at that object, which ends at that tick.
+    pub fn with_limit(self, object: LimitObject, tick: u64) -> Self
+        ensures { λ r. ⌜ r ≡ withLimit object tick self ⌝ }
+    {
+        let id = self.id;
+        let state = self.state;
+        let priority = self.priority;
+        let waiter = self.waiter;
+        let stack = self.stack;
+        TaskControl {
+            occupied: self.occupied,
+            state,
+            priority,
+            limit_passed: self.limit_passed,
+            limit_object: object,
             stack,
+            id,
+            time_slice: self.time_slice,
+            wake_tick: self.wake_tick,
+            limit_tick: tick,
+            remaining_slice: self.remaining_slice,
+            owned_mutex_count: self.owned_mutex_count,
+            waiter,
             sp: self.sp,
             result: self.result,
         }

@@ -11,7 +11,7 @@ use Rattle.base.proofs.Choices.{not-clear, and-left, either}
 use Rattle.kernel.specs.declared.control.TaskId.{TaskId}
 use Rattle.kernel.specs.declared.control.TaskState.the-variants.{Ready}
 use Rattle.kernel.specs.declared.scheduler.Kernel.{Kernel}
-use Rattle.kernel.specs.Update.{withState}
+use Rattle.kernel.specs.Control.{entered}
 use Rattle.kernel.specs.Kernel.{at, slotOf}
 use Rattle.kernel.specs.Scheduler.{wake, wakes}
 use Rattle.kernel.specs.Calls.{Check, firstOf, notWhole, noObject, notStarted}
@@ -30,10 +30,10 @@ present b r n e h = rw (← e, lt-ltb r n h)
 pub slot-tells : (k : Kernel) (a : TaskId) (s : ℕ) → s ≡ (if wakes a k then slotOf k a else 16) → ltb s 16 ≡ wakes a k
 slot-tells k a s e = rw e (either (λ i. ltb i 16 ≡ wakes a k) (wakes a k) (λ t. and-left _ _ t ∙ sym t) (λ f. sym f))
 
-pub slot-wakes : (k : Kernel) (a : TaskId) (s : ℕ) → s ≡ (if wakes a k then slotOf k a else 16) → (if ltb s 16 then at s (withState Ready) k else k) ≡ wake a k
+pub slot-wakes : (k : Kernel) (a : TaskId) (s : ℕ) → s ≡ (if wakes a k then slotOf k a else 16) → (if ltb s 16 then at s (entered Ready) k else k) ≡ wake a k
 unfolding if_then_else_
 slot-wakes k a s e =
-    rw e (either (λ i. (if ltb i 16 then at i (withState Ready) k else k) ≡ wake a k) (wakes a k)
+    rw e (either (λ i. (if ltb i 16 then at i (entered Ready) k else k) ≡ wake a k) (wakes a k)
     (λ t. let found : ltb (slotOf k a) 16 ≡ true = and-left _ _ t in rw found (rw t at (wake-is a k)))
     (λ f. rw f at (wake-is a k)))
 

@@ -2,10 +2,12 @@
 pub mod answer;
 
 use crate::internal::answer::refuse_if;
+use kernel::control::LimitObject;
 use kernel::control::TaskControl;
 use kernel::control::TaskId;
 use kernel::control::TaskState;
 use kernel::internal::one_less;
+use kernel::internal::saturating_add;
 use kernel::scheduler::Kernel;
 ghost use mathlib.Core.Path.{_≡_};
 ghost use Rattle.base.specs.Choice.{if_then_else_};
@@ -14,7 +16,7 @@ ghost use Rattle.kernel.specs.Control.{unblocked};
 ghost use Rattle.kernel.specs.Kernel.{slot, current, currentTask, currentId, slotOf, whole};
 ghost use Rattle.kernel.specs.Calls.{firstOf, notWhole, noObject, notStarted};
 ghost use mathlib.Core.List.{[], _∷_};
-ghost use Rattle.kernel.specs.Scheduler.{setStatus, wake, wakes, ownedUp, ownedDown};
+ghost use Rattle.kernel.specs.Scheduler.{setStatus, limited, wake, wakes, ownedUp, ownedDown};
 
 // What a call on an object asks first where it needs the kernel started: 1 not whole; 20 object above 3; 2 not started.
 pub fn object_number(k: Kernel, is_whole: bool, o: usize) -> u8
@@ -64,7 +66,19 @@ pub fn set_status(mut k: Kernel, state: TaskState) -> Kernel
 {
     let i = k.current.0;
     let t = k.tasks[i];
-    let next = t.with_state(state);
+    let next = t.entered(state);
+    k.tasks[i] = next;
+    k
+}
+
+// A limit of so many ticks begins, for the wait of current at that object.
+pub fn limited(mut k: Kernel, object: LimitObject, ticks: u64) -> Kernel
+    requires { ⌜ current k < 16 ⌝ }
+    ensures { λ r. ⌜ r ≡ limited object ticks k ⌝ }
+{
+    let i = k.current.0;
+    let t = k.tasks[i];
+    let next = t.with_limit(object, saturating_add(k.tick_count, ticks));
     k.tasks[i] = next;
     k
 }
@@ -73,7 +87,7 @@ fn unblocked(t: TaskControl) -> TaskControl
     ensures { λ r. ⌜ r ≡ unblocked t ⌝ }
 {
     if t.is_blocked() {
-        return t.with_state(TaskState::Ready);
+        return t.entered(TaskState::Ready);
     }
     t
 }

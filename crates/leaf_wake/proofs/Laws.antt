@@ -12,7 +12,7 @@ use Rattle.kernel.specs.declared.wait_queue.WaitQueue.{WaitQueue}
 use Rattle.kernel.specs.declared.scheduler.Kernel.{Kernel}
 use Rattle.kernel.specs.declared.scheduler.Value.the-variants.{YesNo}
 use Rattle.kernel.specs.declared.scheduler.Answer.{Answer}
-use Rattle.kernel.specs.Update.{withState}
+use Rattle.kernel.specs.Control.{entered}
 use Rattle.kernel.specs.WaitQueue.{head, popped}
 use Rattle.kernel.specs.Kernel.{at, slotOf}
 use Rattle.kernel.specs.Scheduler.{wake, wakes, Waking, dropHeads, wakeOne}
@@ -42,7 +42,7 @@ passed q₀ q p k s h e g l i =
     let f : wakes (head q) k ≡ false = sym (slot-tells k (head q) s g) ∙ le-ltb s 16 l in
     sym (ap (λ (n : ℕ). dropHeads n q k) (more _ h) ∙ rw (f, e, popped-length q h)) ∙ i
 
-says : (q₀ : WaitQueue) (k : Kernel) (p : WaitQueue) (s : ℕ) (w : Waking) → w ≡ wakeOne q₀ k → p ≡ w .waiters → (if ltb s 16 then at s (withState Ready) k else k) ≡ w .kernel → ltb s 16 ≡ w .woke → WakesOne (record { waiters = p; slot = s }) q₀ k
+says : (q₀ : WaitQueue) (k : Kernel) (p : WaitQueue) (s : ℕ) (w : Waking) → w ≡ wakeOne q₀ k → p ≡ w .waiters → (if ltb s 16 then at s (entered Ready) k else k) ≡ w .kernel → ltb s 16 ≡ w .woke → WakesOne (record { waiters = p; slot = s }) q₀ k
 says q₀ k p s w i e f g = record { waiters = e ∙ ap (λ (x : Waking). x .waiters) i; kernel = f ∙ ap (λ (x : Waking). x .kernel) i; woke = g ∙ ap (λ (x : Waking). x .woke) i }
 
 pub found : (q₀ q p : WaitQueue) (k : Kernel) (s : ℕ) → (q .len ≡ 0 → ⊥) → p ≡ popped q → s ≡ (if wakes (head q) k then slotOf k (head q) else 16) → s < 16 → wakeOne q k ≡ wakeOne q₀ k → WakesOne (record { waiters = p; slot = s }) q₀ k
@@ -58,6 +58,6 @@ nobody q₀ q k e i = says q₀ k q 16 _ (sym (ap (λ (n : ℕ). dropHeads n q k
 
 -- ---- the answer of a release or a signal: what is put into the object stands beside the tasks
 
-pub answered : (put : Kernel → Kernel) (q : WaitQueue) (k : Kernel) (w : Woken) (r : Answer) → at (w .slot) (withState Ready) (put k) ≡ put (at (w .slot) (withState Ready) k) → WakesOne w q k
-    → r ≡ accepted (YesNo (ltb (w .slot) 16)) (if ltb (w .slot) 16 then at (w .slot) (withState Ready) (put k) else put k) → r ≡ accepted (YesNo (wakeOne q k .woke)) (put (wakeOne q k .kernel))
-answered put q k w r beside is e = rw (← is .woke, ← is .kernel, through put (ltb (w .slot) 16) (at (w .slot) (withState Ready) k) k, ← beside) e
+pub answered : (put : Kernel → Kernel) (q : WaitQueue) (k : Kernel) (w : Woken) (r : Answer) → at (w .slot) (entered Ready) (put k) ≡ put (at (w .slot) (entered Ready) k) → WakesOne w q k
+    → r ≡ accepted (YesNo (ltb (w .slot) 16)) (if ltb (w .slot) 16 then at (w .slot) (entered Ready) (put k) else put k) → r ≡ accepted (YesNo (wakeOne q k .woke)) (put (wakeOne q k .kernel))
+answered put q k w r beside is e = rw (← is .woke, ← is .kernel, through put (ltb (w .slot) 16) (at (w .slot) (entered Ready) k) k, ← beside) e

@@ -1,13 +1,14 @@
 // Whether a kernel is whole, and of what that is made. No calls.
 use kernel::control::StackRegion;
 use kernel::control::TaskControl;
+use kernel::control::TaskState;
 use kernel::scheduler::Kernel;
 use kernel::wait_queue::WaitQueue;
 ghost use mathlib.Core.Path.{_≡_};
-ghost use mathlib.Core.Bool.{true, _||_, not};
+ghost use mathlib.Core.Bool.{true, _&&_, _||_, not};
 ghost use Rattle.base.specs.Below.{allBelow, countBelow};
-ghost use Rattle.kernel.specs.Control.{regionFits};
-ghost use Rattle.kernel.specs.Kernel.{arenaFits, isOccupied, regionWhole, ownedWhole, queuesWhole, chargeWhole, whole};
+ghost use Rattle.kernel.specs.Control.{inState, hasLimit, objectFits, regionFits};
+ghost use Rattle.kernel.specs.Kernel.{arenaFits, isOccupied, regionWhole, ownedWhole, queuesWhole, chargeWhole, limitWhole, whole};
 
 pub fn arena_fits(words: usize) -> bool
     ensures { λ r. ⌜ r ≡ arenaFits words ⌝ }
@@ -33,6 +34,14 @@ fn region_whole(t: TaskControl, words: u32) -> bool
     !t.occupied | region_fits(stack, words)
 }
 
+// A limit in a Blocked task only, with an object number below 4.
+fn limit_whole(t: TaskControl) -> bool
+    ensures { λ r. ⌜ r ≡ (not (t .occupied && hasLimit t) || (inState TaskState.Blocked t && objectFits (t .«limit_object»))) ⌝ }
+{
+    let object = t.limit_object;
+    !(t.occupied & object.is_limit()) | (t.is_blocked() & object.fits())
+}
+
 fn is_occupied(k: Kernel, i: usize) -> bool
     ensures { λ r. ⌜ r ≡ isOccupied k i ⌝ }
 {
@@ -47,28 +56,32 @@ struct Slots {
     regions: bool,
     owned: bool,
     charges: bool,
+    limits: bool,
     occupied: usize,
 }
 
 fn slots_whole(k: Kernel) -> Slots
-    ensures { λ r. ⌜ (r .regions ≡ allBelow (regionWhole k) 16) × (r .owned ≡ allBelow (ownedWhole k) 16) × (r .charges ≡ allBelow (chargeWhole k) 16) × (r .occupied ≡ countBelow (isOccupied k) 16) ⌝ }
+    ensures { λ r. ⌜ (r .regions ≡ allBelow (regionWhole k) 16) × (r .owned ≡ allBelow (ownedWhole k) 16) × (r .charges ≡ allBelow (chargeWhole k) 16) × (r .limits ≡ allBelow (limitWhole k) 16) × (r .occupied ≡ countBelow (isOccupied k) 16) ⌝ }
 {
     let words = k.arena_words;
     let mut regions = true;
     let mut owned = true;
     let mut charges = true;
+    let mut limits = true;
     let mut occupied: usize = 0;
     for i in 0..Kernel::MAX_TASKS {
         let t = k.tasks[i];
         regions = regions & region_whole(t, words);
         owned = owned & (!t.occupied | (t.owned_mutex_count <= TaskControl::MAX_OWNED_MUTEXES));
         charges = charges & (k.charges[i] <= k.tick_count);
+        limits = limits & limit_whole(t);
         occupied = occupied + (t.occupied as usize);
     }
     Slots {
         regions,
         owned,
         charges,
+        limits,
         occupied,
     }
 }
@@ -105,6 +118,7 @@ fn looked_at(k: Kernel) -> bool
         & (k.task_count == slots.occupied)
         & slots.owned
         & slots.charges
+        & slots.limits
 }
 
 // Where `known` is true the caller knows that the kernel is whole, and it is not looked at.

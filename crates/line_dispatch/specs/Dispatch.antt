@@ -14,9 +14,9 @@ use Rattle.kernel.specs.declared.scheduler.Value.the-variants.{Nothing}
 use Rattle.kernel.specs.declared.scheduler.Answer.{Answer}
 use Rattle.kernel.specs.Control.{paint}
 use Rattle.kernel.specs.Timer.{msToTicks}
-use Rattle.kernel.specs.Calls.{Call, add, start, tick, switch, current-id, status, block, sleep, wake, exit, wait, reap, reap-one, result, lock, try-lock, unlock, acquire, try-acquire, release, event-wait, signal, list, number, accepted, refused, step, addWords, listRecords, initNumber, init, initWords}
+use Rattle.kernel.specs.Calls.{Call, add, start, tick, switch, current-id, status, block, sleep, wake, exit, wait, reap, reap-one, result, lock, try-lock, unlock, acquire, acquire-within, try-acquire, release, event-wait, event-wait-within, signal, list, number, accepted, refused, step, addWords, listRecords, initNumber, init, initWords}
 use Rattle.line_frame.specs.declared.Operation.{Operation}
-use Rattle.line_frame.specs.declared.Operation.the-variants.{Unknown, Add, Start, Tick, Switch, Exit, Wait, Reap, Sleep, Wake, Lock, Unlock, TryLock, Acquire, TryAcquire, Release, EventWait, Signal, Status, Block, ReapOne, CurrentId, Result, Word, Init}
+use Rattle.line_frame.specs.declared.Operation.the-variants.{Unknown, Add, Start, Tick, Switch, Exit, Wait, Reap, Sleep, Wake, Lock, Unlock, TryLock, Acquire, TryAcquire, Release, EventWait, Signal, Status, Block, ReapOne, AcquireWithin, EventWaitWithin, CurrentId, Result, Word, Init}
 use Rattle.line_frame.specs.declared.Frame.{Frame}
 use Rattle.call_list.specs.Records.{blankInfo}
 use Rattle.line_records.specs.RecordsText.{listText}
@@ -75,6 +75,8 @@ requestOf hz arena Signal k y = call (signal k)
 requestOf hz arena Status k y = call (status k)
 requestOf hz arena Block k y = call block
 requestOf hz arena ReapOne k y = call reap-one
+requestOf hz arena AcquireWithin k y = call (acquire-within k y)
+requestOf hz arena EventWaitWithin k y = call (event-wait-within k y)
 requestOf hz arena Operation.List k y = listing k
 requestOf hz arena CurrentId k y = call current-id
 requestOf hz arena Result k y = call (result (idOf y) (signedByte k))

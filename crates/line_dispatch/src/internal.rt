@@ -12,11 +12,13 @@ use line_frame::Operation;
 ghost use mathlib.Core.Path.{_≡_};
 ghost use mathlib.Core.Bool.{true, _||_, not};
 ghost use Prim.Native.Nat.{_+_, _≤_};
+ghost use lib.Dec.{eqb};
 ghost use lib.ListN.{length, set};
+ghost use Rattle.base.specs.Choice.{if_then_else_};
 ghost use Rattle.kernel.specs.Kernel.{whole};
-ghost use Rattle.kernel.specs.Calls.{initWords};
+ghost use Rattle.kernel.specs.Calls.{current-id, result, acquire-within, event-wait-within, step, initWords};
 ghost use Rattle.line_text.specs.Text.{Writes};
-ghost use Rattle.line_dispatch.specs.Dispatch.{signedByte, wordOf, freshFor, listAnswer, listAdds, answerTo, wordsAfter, addedTo};
+ghost use Rattle.line_dispatch.specs.Dispatch.{idOf, signedByte, wordOf, freshFor, listAnswer, listAdds, answerTo, wordsAfter, addedTo};
 
 // What stands for the number where a line asks for no call.
 const NO_CALL: u8 = 255;
@@ -72,6 +74,25 @@ fn list(k: Kernel, room: usize, arena: &[u32], out: &mut [u8], at: &mut usize) -
     answer
 }
 
+// The calls that `turns` has not: 0 current id, 1 result, 2 acquire with a limit, 3 event wait with a limit.
+fn other(k: Kernel, which: u8, b: u8, y: u32) -> Answer
+    ensures { λ r. ⌜ r ≡ step k (if eqb which 0 then current-id else if eqb which 1 then result (idOf y) (signedByte b) else if eqb which 2 then acquire-within b y else event-wait-within b y) ⌝ }
+{
+    let id = TaskId(y);
+    let object = b as usize;
+    let ticks = y as u64;
+    if which == 0 {
+        return call_status::current_task_id(k);
+    }
+    if which == 1 {
+        return call_wake::set_syscall_result(k, id, signed(b));
+    }
+    if which == 2 {
+        return call_acquire::acquire_within(k, object, ticks);
+    }
+    call_event_wait::wait_within(k, object, ticks)
+}
+
 // What the line adds to its answer is written into `out`, and `at` moves behind it.
 pub fn dispatch(
     k: Kernel,
@@ -120,7 +141,7 @@ pub fn dispatch(
         Operation::Status => call_status::internal::set_current_task_status(k, known, f.k),
         Operation::Block => call_status::internal::block_current_task(k, known),
         Operation::ReapOne => call_reap::internal::reap_one(k, known),
-        // Called from two places, `list` stays a function of its own; taken into this one it would make each of the others slower.
+        // Called from two places or more, `list` and `other` stay functions of their own; taken into this one they would make each of the calls above slower. So would an answer of `other` without a name.
         Operation::List => {
             if object < Kernel::MAX_TASKS {
                 list(k, object, arena, out, at)
@@ -128,12 +149,26 @@ pub fn dispatch(
                 list(k, Kernel::MAX_TASKS, arena, out, at)
             }
         },
-        Operation::CurrentId => call_status::current_task_id(k),
-        Operation::Result => call_wake::set_syscall_result(k, id, signed(f.k)),
+        Operation::CurrentId => {
+            let answer = other(k, 0, f.k, f.y);
+            answer
+        },
+        Operation::Result => {
+            let answer = other(k, 1, f.k, f.y);
+            answer
+        },
         Operation::Word => {
             set_word(arena, f.y as usize, word_of(f.k));
             answer::accepted(Value::Nothing, k)
         },
         Operation::Init => init(k, f.y, arena),
+        Operation::AcquireWithin => {
+            let answer = other(k, 2, f.k, f.y);
+            answer
+        },
+        Operation::EventWaitWithin => {
+            let answer = other(k, 3, f.k, f.y);
+            answer
+        },
     }
 }

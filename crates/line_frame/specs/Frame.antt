@@ -6,7 +6,7 @@ use lib.Dec.{eqb, leb, ltb}
 use lib.ListN.{getD, set, replicate}
 use Rattle.base.specs.Choice.{if_then_else_, every}
 use Rattle.line_frame.specs.declared.Operation.{Operation}
-use Rattle.line_frame.specs.declared.Operation.the-variants.{Unknown, Add, Start, Tick, Switch, Exit, Wait, Reap, Sleep, Wake, Lock, Unlock, TryLock, Acquire, TryAcquire, Release, EventWait, Signal, Status, Block, ReapOne, CurrentId, Result, Word, Init}
+use Rattle.line_frame.specs.declared.Operation.the-variants.{Unknown, Add, Start, Tick, Switch, Exit, Wait, Reap, Sleep, Wake, Lock, Unlock, TryLock, Acquire, TryAcquire, Release, EventWait, Signal, Status, Block, ReapOne, AcquireWithin, EventWaitWithin, CurrentId, Result, Word, Init}
 use Rattle.line_frame.specs.declared.Frame.{Frame}
 use Rattle.line_frame.specs.declared.Line.{Line}
 
@@ -44,21 +44,21 @@ isHex l = every (eqb (l .len) 12 ∷ ltb (byteAt l 0) 256 ∷ ltb (byteAt l 1) 2
 
 -- ---- its operation and its operands
 
--- in the order of their numbers, from 00, which is none; so are 15 to 1a
+-- in the order of their numbers, from 00, which is none; so are 17 to 1a
 abbrev pub operations : List Operation
-operations = Unknown ∷ Add ∷ Start ∷ Tick ∷ Switch ∷ Exit ∷ Wait ∷ Reap ∷ Sleep ∷ Wake ∷ Lock ∷ Unlock ∷ TryLock ∷ Acquire ∷ TryAcquire ∷ Release ∷ EventWait ∷ Signal ∷ Status ∷ Block ∷ ReapOne ∷ Unknown ∷ Unknown ∷ Unknown ∷ Unknown ∷ Unknown ∷ Unknown ∷ Operation.List ∷ CurrentId ∷ Result ∷ Word ∷ Init ∷ []
+operations = Unknown ∷ Add ∷ Start ∷ Tick ∷ Switch ∷ Exit ∷ Wait ∷ Reap ∷ Sleep ∷ Wake ∷ Lock ∷ Unlock ∷ TryLock ∷ Acquire ∷ TryAcquire ∷ Release ∷ EventWait ∷ Signal ∷ Status ∷ Block ∷ ReapOne ∷ AcquireWithin ∷ EventWaitWithin ∷ Unknown ∷ Unknown ∷ Unknown ∷ Unknown ∷ Operation.List ∷ CurrentId ∷ Result ∷ Word ∷ Init ∷ []
 
 -- `turns` has those up to 14
 unfoldable pub operationOf : Bool → ℕ → Operation
 operationOf tables n = if tables || leb n 0x14 then getD operations n Unknown else Unknown
 
--- add, the calls on objects and status; list, result and word
+-- add, the calls on objects and status; 15 and 16, with a limit; list, result and word
 abbrev pub usesK : ℕ → Bool
-usesK operation = eqb operation 0x01 || (leb 0x0a operation && leb operation 0x12) || eqb operation 0x1b || eqb operation 0x1d || eqb operation 0x1e
+usesK operation = eqb operation 0x01 || (leb 0x0a operation && leb operation 0x12) || eqb operation 0x15 || eqb operation 0x16 || eqb operation 0x1b || eqb operation 0x1d || eqb operation 0x1e
 
--- add, switch, and 06 to 09: wait, reap, sleep, wake; 1d to 1f: result, word, fresh
+-- add, switch, and 06 to 09: wait, reap, sleep, wake; 15 and 16; 1d to 1f: result, word, fresh
 abbrev pub usesY : ℕ → Bool
-usesY operation = eqb operation 0x01 || eqb operation 0x04 || (leb 0x06 operation && leb operation 0x09) || (leb 0x1d operation && leb operation 0x1f)
+usesY operation = eqb operation 0x01 || eqb operation 0x04 || (leb 0x06 operation && leb operation 0x09) || eqb operation 0x15 || eqb operation 0x16 || (leb 0x1d operation && leb operation 0x1f)
 
 abbrev pub kOf : Line → ℕ
 kOf l = byteAt l 1

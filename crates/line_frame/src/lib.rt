@@ -5,7 +5,7 @@ ghost use Prim.Native.Nat.{_+_, _*_, _<_};
 ghost use lib.ListN.{getD};
 ghost use Rattle.line_frame.specs.Frame.{emptyLine, digit, byteOf, byteAt, isHex, operations, operationOf, usesK, usesY, kFits, yFits, wordFits, yOf, operandsFit, malformed, frameOf};
 
-// The operations in the order of their numbers: 0x01 to 0x14, which `turns` has, and 0x1b to 0x1f, which `tables` has too.
+// The operations in the order of their numbers: 0x01 to 0x14, which `turns` has, and 0x15, 0x16 and 0x1b to 0x1f, which `tables` has too.
 pub enum Operation {
     Unknown,
     Add,
@@ -28,6 +28,8 @@ pub enum Operation {
     Status,
     Block,
     ReapOne,
+    AcquireWithin,
+    EventWaitWithin,
     List,
     CurrentId,
     Result,
@@ -111,6 +113,8 @@ fn numbered(n: u32) -> Operation
         0x12 => Operation::Status,
         0x13 => Operation::Block,
         0x14 => Operation::ReapOne,
+        0x15 => Operation::AcquireWithin,
+        0x16 => Operation::EventWaitWithin,
         0x1b => Operation::List,
         0x1c => Operation::CurrentId,
         0x1d => Operation::Result,
@@ -134,6 +138,8 @@ fn uses_k(operation: u32) -> bool
 {
     (operation == 0x01)
         | ((0x0a <= operation) & (operation <= 0x12))
+        | (operation == 0x15)
+        | (operation == 0x16)
         | (operation == 0x1b)
         | (operation == 0x1d)
         | (operation == 0x1e)
@@ -145,6 +151,8 @@ fn uses_y(operation: u32) -> bool
     (operation == 0x01)
         | (operation == 0x04)
         | ((0x06 <= operation) & (operation <= 0x09))
+        | (operation == 0x15)
+        | (operation == 0x16)
         | ((0x1d <= operation) & (operation <= 0x1f))
 }
 

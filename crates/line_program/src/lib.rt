@@ -15,11 +15,11 @@ struct Read {
     more: bool,
 }
 
-// How many bytes are read at a time: 4,096 × 13 and 7 × 8,894 bytes of replies have room in 65,536.
+// How many bytes are read at a time: 4,096 × 13 and 6 × 9,994 bytes of replies have room in 65,536.
 fn chunk_bytes(tables: bool) -> usize
     ensures { λ r. ⌜ (replyRoom tables * r ≤ 65536) × (r ≤ 4096) × (0 < r) ⌝ }
 {
-    if tables { 7 } else { 4096 }
+    if tables { 6 } else { 4096 }
 }
 
 // Whether all was written; if not, standard error says so.
@@ -122,7 +122,8 @@ fn write_help(tables: bool) {
     );
     if begun && write_calls() {
         let listed = written(
-            b"  1b list, k records lent   1c current id   1d result k, a signed byte, of id y   1f fresh, y hz
+            b"  15 acquire semaphore k   16 wait for event k, both for y ticks at most
+  1b list, k records lent   1c current id   1d result k, a signed byte, of id y   1f fresh, y hz
   1e no call: word y of the arena becomes 0, or for k 1 the paint
 ",
         );

@@ -3,6 +3,8 @@ use Prim.Native.Nat.{ℕ, suc}
 use mathlib.Core.Bool.{true}
 use mathlib.Core.List.{List, [], _∷_, _++_}
 use lib.IntN.{ℤ, pos, negsuc}
+use Rattle.kernel.specs.declared.control.LimitObject.{LimitObject}
+use Rattle.kernel.specs.declared.control.LimitObject.the-variants.{NoLimit, AtSemaphore, AtEvent}
 use Rattle.kernel.specs.declared.control.TaskControl.{TaskControl}
 use Rattle.kernel.specs.declared.scheduler.Kernel.{Kernel}
 use Rattle.kernel.specs.Control.{stateNumber}
@@ -46,6 +48,22 @@ schedulerText k = decimal (k .«tick_count») ++ comma ++ flag (k .started) ++ f
 unfoldable pub chargesText : Kernel → List ℕ
 chargesText k = joined 44 (λ i. true) (λ i. decimal (charge k i)) 16
 
+-- ---- limits
+
+-- kind, `s` or `e`, object and limit, each after a comma; without a limit `-` for each
+unfoldable pub keptText : LimitObject → ℕ → List ℕ
+keptText NoLimit tick = (44 ∷ 45 ∷ []) ++ (44 ∷ 45 ∷ []) ++ (44 ∷ 45 ∷ [])
+keptText (AtSemaphore s) tick = (44 ∷ 115 ∷ []) ++ (field s ++ field tick)
+keptText (AtEvent e) tick = (44 ∷ 101 ∷ []) ++ (field e ++ field tick)
+
+-- slot, kind, object, limit, ended
+unfoldable pub limitText : ℕ → TaskControl → List ℕ
+limitText i t = decimal i ++ keptText (t .«limit_object») (t .«limit_tick») ++ comma ++ flag (t .«limit_passed»)
+
+-- the occupied slots, joined by `;`
+unfoldable pub limitsText : Kernel → List ℕ
+limitsText k = joined 59 (λ i. slot k i .occupied) (λ i. limitText i (slot k i)) 16
+
 -- ---- the line
 
 unfoldable pub tableLine : Kernel → List ℕ
@@ -54,4 +72,4 @@ tableLine k =
     ++ bar ++ objectsText (λ i. mutexText (mutex k i))
     ++ bar ++ objectsText (λ i. semaphoreText (semaphore k i))
     ++ bar ++ objectsText (λ i. eventText (event k i))
-    ++ bar ++ chargesText k ++ (10 ∷ [])
+    ++ bar ++ chargesText k ++ bar ++ limitsText k ++ (10 ∷ [])

@@ -1,4 +1,5 @@
 // Each function writes at a place, answers the place after what it wrote, and asks its caller for the room.
+use kernel::control::LimitObject;
 use kernel::control::TaskControl;
 use kernel::scheduler::Kernel;
 use line_objects::internal::put_bar;
@@ -16,7 +17,8 @@ ghost use lib.ListN.{length};
 ghost use Rattle.base.specs.Choice.{if_then_else_};
 ghost use Rattle.kernel.specs.Control.{stateNumber};
 ghost use Rattle.line_text.specs.Text.{Writes, decimal};
-ghost use Rattle.line_table.specs.TableLine.{field, signed, slotText, slotsText, schedulerText, chargesText, tableLine};
+ghost use Rattle.line_objects.specs.ObjectsLine.{bar};
+ghost use Rattle.line_table.specs.TableLine.{field, signed, slotText, slotsText, schedulerText, chargesText, keptText, limitText, limitsText, tableLine};
 
 // ---- pieces
 
@@ -162,12 +164,104 @@ fn put_charges(out: &mut [u8], at: usize, k: Kernel) -> usize
     n
 }
 
+// ---- limits
+
+fn put_two(out: &mut [u8], at: usize, a: u8, b: u8) -> usize
+    requires { ⌜ at + 2 ≤ length (now out) ⌝ }
+    ensures { λ r. ⌜ Writes (now (out .entry)) at (a ∷ b ∷ []) (now (out .exit)) r ⌝ }
+{
+    let second = put(out, at, a);
+    put(out, second, b)
+}
+
+// The number of an object, and a tick.
+fn put_object(out: &mut [u8], at: usize, object: u8, tick: u64) -> usize
+    requires { ⌜ at + 42 ≤ length (now out) ⌝ }
+    ensures { λ r. ⌜ Writes (now (out .entry)) at (field object ++ field tick) (now (out .exit)) r ⌝ }
+    ensures short { λ r. ⌜ r ≤ at + 42 ⌝ }
+{
+    let second = put_field(out, at, object as u64);
+    put_field(out, second, tick)
+}
+
+fn put_kept(out: &mut [u8], at: usize, object: LimitObject, tick: u64) -> usize
+    requires { ⌜ at + 44 ≤ length (now out) ⌝ }
+    ensures { λ r. ⌜ Writes (now (out .entry)) at (keptText object tick) (now (out .exit)) r ⌝ }
+    ensures short { λ r. ⌜ r ≤ at + 44 ⌝ }
+{
+    match object {
+        LimitObject::NoLimit => {
+            let second = put_two(out, at, b',', b'-');
+            let third = put_two(out, second, b',', b'-');
+            put_two(out, third, b',', b'-')
+        },
+        LimitObject::AtSemaphore(s) => {
+            let number = put_two(out, at, b',', b's');
+            put_object(out, number, s, tick)
+        },
+        LimitObject::AtEvent(e) => {
+            let number = put_two(out, at, b',', b'e');
+            put_object(out, number, e, tick)
+        },
+    }
+}
+
+fn put_limit(out: &mut [u8], at: usize, i: usize, t: TaskControl) -> usize
+    requires { ⌜ at + 66 ≤ length (now out) ⌝ }
+    ensures { λ r. ⌜ Writes (now (out .entry)) at (limitText i t) (now (out .exit)) r ⌝ }
+    ensures short { λ r. ⌜ r ≤ at + 66 ⌝ }
+{
+    let object = t.limit_object;
+    let mut n = put_decimal(out, at, i as u64);
+    n = put_kept(out, n, object, t.limit_tick);
+    n = put(out, n, b',');
+    put_flag(out, n, t.limit_passed)
+}
+
+// A slot that is not occupied has no text.
+fn put_limit_if(out: &mut [u8], at: usize, any: bool, i: usize, t: TaskControl) -> usize
+    requires { ⌜ at + 67 ≤ length (now out) ⌝ }
+    ensures { λ r. ⌜ Writes (now (out .entry)) at (if t .occupied then (if any then 59 ∷ [] else []) ++ limitText i t else []) (now (out .exit)) r ⌝ }
+    ensures short { λ r. ⌜ r ≤ at + 67 ⌝ }
+{
+    if !t.occupied {
+        return at;
+    }
+    let n = put_between(out, at, any, b';');
+    put_limit(out, n, i, t)
+}
+
+fn put_limits(out: &mut [u8], at: usize, k: Kernel) -> usize
+    requires { ⌜ at + 1072 ≤ length (now out) ⌝ }
+    ensures { λ r. ⌜ Writes (now (out .entry)) at (limitsText k) (now (out .exit)) r ⌝ }
+    ensures short { λ r. ⌜ r ≤ at + 1072 ⌝ }
+{
+    let mut n = at;
+    let mut any = false;
+    for i in 0..Kernel::MAX_TASKS {
+        let t = k.tasks[i];
+        n = put_limit_if(out, n, any, i, t);
+        any = any | t.occupied;
+    }
+    n
+}
+
+fn put_charges_and_limits(out: &mut [u8], at: usize, k: Kernel) -> usize
+    requires { ⌜ at + 1411 ≤ length (now out) ⌝ }
+    ensures { λ r. ⌜ Writes (now (out .entry)) at (chargesText k ++ bar ++ limitsText k) (now (out .exit)) r ⌝ }
+    ensures short { λ r. ⌜ r ≤ at + 1411 ⌝ }
+{
+    let mut n = put_charges(out, at, k);
+    n = put_bar(out, n);
+    put_limits(out, n, k)
+}
+
 // ---- the line
 
 pub fn put_table(out: &mut [u8], at: usize, k: Kernel) -> usize
-    requires { ⌜ at + 7200 ≤ length (now out) ⌝ }
+    requires { ⌜ at + 8300 ≤ length (now out) ⌝ }
     ensures { λ r. ⌜ Writes (now (out .entry)) at (tableLine k) (now (out .exit)) r ⌝ }
-    ensures short { λ r. ⌜ r ≤ at + 7200 ⌝ }
+    ensures short { λ r. ⌜ r ≤ at + 8300 ⌝ }
 {
     let mut n = put_slots(out, at, k);
     n = put_bar(out, n);
@@ -175,6 +269,6 @@ pub fn put_table(out: &mut [u8], at: usize, k: Kernel) -> usize
     n = put_bar(out, n);
     n = put_objects(out, n, k);
     n = put_bar(out, n);
-    n = put_charges(out, n, k);
+    n = put_charges_and_limits(out, n, k);
     put(out, n, b'\n')
 }

@@ -42,10 +42,26 @@ fn answer(line: &[u8], op: u8) -> Vec<u8> {
     line
 }
 
-/// A line of `tables` without its last part, the charges.
-fn table(line: &[u8]) -> &[u8] {
-    let bar = line.windows(3).rposition(|part| part == b" | ");
-    &line[..bar.unwrap_or(line.len())]
+/// A line of `tables` cut at its last bar.
+fn cut(line: &[u8]) -> (&[u8], &[u8]) {
+    match line.windows(3).rposition(|part| part == b" | ") {
+        Some(bar) => (&line[..bar], &line[bar + 3..]),
+        None => (line, b""),
+    }
+}
+
+/// A line of `tables` without its last two parts, the charges and the limits,
+/// and the limits.
+fn table(line: &[u8]) -> (&[u8], &[u8]) {
+    let (line, limits) = cut(line);
+    (cut(line).0, limits)
+}
+
+/// The limits of a list without a limited wait: none, and no mark.
+fn no_limits(tables: &Tables) -> Vec<u8> {
+    let occupied = (0..SLOTS).filter(|&at| tables.slots[at].is_some());
+    let texts: Vec<String> = occupied.map(|at| format!("{at},-,-,-,0")).collect();
+    texts.join(";").into_bytes()
 }
 
 /// The first call, counted from 0, whose answer or table is not the same, with
@@ -69,8 +85,13 @@ fn difference(list: &[Call], got: &[u8]) -> Option<(usize, String, String)> {
             return Some((at, text(&want), text(line)));
         }
         let line = got_lines.next().unwrap_or(b"");
-        if table(line) != want_table {
+        let (got_table, got_limits) = table(line);
+        if got_table != want_table {
             return Some((at, text(&want_table), text(line)));
+        }
+        let want_limits = no_limits(&tables());
+        if got_limits != want_limits {
+            return Some((at, text(&want_limits), text(line)));
         }
     }
 

@@ -1,4 +1,4 @@
--- `put_to_sleep` meets its contract, by those of `with_state` and `saturating_add`.
+-- `put_to_sleep` meets its contract, by those of `entered` and `saturating_add`.
 use borrow.Author.Needs.{needs}
 use Rattle.call_status.proofs.put_to_sleep.Statement.{statement}
 use Rattle.call_status.proofs.put_to_sleep.Tie as tie
@@ -13,4 +13,4 @@ put-to-sleep-spec =
     (λ c κs. search needs)
     (λ c. search needs)
     (λ c. search needs)
-    (λ c. rw (c .saturating-add .ensures, c .before .with-state .ensures)))
+    (λ c. rw (c .saturating-add .ensures, c .before .entered .ensures)))

@@ -8,7 +8,7 @@ use Rattle.call_switch.proofs.context_saved.Tie as tie
 
 returns : tie.Need-returns
 unfolding contextSaved
-returns c = taken _ _ _ _ (search tests) (c .with-state .ensures)
+returns c = taken _ _ _ _ (search tests) (c .entered .ensures)
 
 returns-2 : tie.Need-returns-2
 unfolding contextSaved

@@ -6,7 +6,7 @@ use kernel::scheduler::Value;
 ghost use lib.Dec.{ltb};
 ghost use mathlib.Core.Path.{_≡_};
 ghost use Rattle.base.specs.Choice.{if_then_else_};
-ghost use Rattle.kernel.specs.Update.{withState};
+ghost use Rattle.kernel.specs.Control.{entered};
 ghost use Rattle.kernel.specs.Kernel.{at};
 ghost use Rattle.kernel.specs.Calls.{refused, accepted};
 
@@ -40,13 +40,13 @@ pub fn accepted(value: Value, kernel: Kernel) -> Answer
 
 // The task in slot i is made Ready, yes; 16 is none, no.
 pub fn woken(mut k: Kernel, i: usize) -> Answer
-    ensures { λ r. ⌜ r ≡ accepted (Value.YesNo (ltb i 16)) (if ltb i 16 then at i (withState TaskState.Ready) k else k) ⌝ }
+    ensures { λ r. ⌜ r ≡ accepted (Value.YesNo (ltb i 16)) (if ltb i 16 then at i (entered TaskState.Ready) k else k) ⌝ }
 {
     if Kernel::MAX_TASKS <= i {
         return accepted(Value::YesNo(false), k);
     }
     let t = k.tasks[i];
-    let next = t.with_state(TaskState::Ready);
+    let next = t.entered(TaskState::Ready);
     k.tasks[i] = next;
     accepted(Value::YesNo(true), k)
 }

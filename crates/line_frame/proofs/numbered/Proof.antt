@@ -18,23 +18,21 @@ above : (n i : ℕ) → Missed n i → 0 < n → i < n
 above n zero h p = p
 above n (suc i) h p = omega (arith, above n i (h .0) p, h .1)
 
--- 15 to 1a, and past the end
-behind : (m : ℕ) → (26 < 21 + m → 31 < 21 + m) → Unknown ≡ getD operations (21 + m) Unknown
+-- 17 to 1a, and past the end
+behind : (m : ℕ) → (26 < 23 + m → 31 < 23 + m) → Unknown ≡ getD operations (23 + m) Unknown
 behind zero high = refl
 behind (suc zero) high = refl
 behind (suc (suc zero)) high = refl
 behind (suc (suc (suc zero))) high = refl
-behind (suc (suc (suc (suc zero)))) high = refl
-behind (suc (suc (suc (suc (suc zero))))) high = refl
-behind (suc (suc (suc (suc (suc (suc m)))))) high =
-    let past : 31 < 21 + suc (suc (suc (suc (suc (suc m))))) = high (omega arith) in
+behind (suc (suc (suc (suc m)))) high =
+    let past : 31 < 23 + suc (suc (suc (suc m))) = high (omega arith) in
     sym (List·getD-eq-default operations Unknown past)
 
-others : (n : ℕ) → (0 < n → 20 < n) → (26 < n → 31 < n) → Unknown ≡ getD operations n Unknown
+others : (n : ℕ) → (0 < n → 22 < n) → (26 < n → 31 < n) → Unknown ≡ getD operations n Unknown
 others zero low high = refl
 others (suc n) low high =
-    let e : 21 + (n - 20) ≡ suc n = omega (arith, low (omega arith)) in
-    subst (λ (i : ℕ). Unknown ≡ getD operations i Unknown) e (behind (n - 20) (rw e high))
+    let e : 23 + (n - 22) ≡ suc n = omega (arith, low (omega arith)) in
+    subst (λ (i : ℕ). Unknown ≡ getD operations i Unknown) e (behind (n - 22) (rw e high))
 
 pub numbered-spec : {M : Type 1} → statement M
 numbered-spec =
@@ -65,6 +63,8 @@ numbered-spec =
     (λ c. search needs)
     (λ c. search needs)
     (λ c. search needs)
+    (λ c. search needs)
+    (λ c. search needs)
     (λ c.
     let h = c .match .rest in
-    others (c .before .args .n) (above (c .before .args .n) 20 (h .0 .0 .0 .0 .0)) (λ more. omega (arith, more, h .0 .0 .0 .0 .1, h .0 .0 .0 .1, h .0 .0 .1, h .0 .1, h .1))))
+    others (c .before .args .n) (above (c .before .args .n) 22 (h .0 .0 .0 .0 .0)) (λ more. omega (arith, more, h .0 .0 .0 .0 .1, h .0 .0 .0 .1, h .0 .0 .1, h .0 .1, h .1))))

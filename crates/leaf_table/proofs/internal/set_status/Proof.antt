@@ -4,7 +4,7 @@ use Rattle.leaf_table.proofs.internal.set_status.Statement.{statement}
 use Rattle.leaf_table.proofs.internal.set_status.Tie as tie
 
 returns : tie.Need-returns
-returns c = rw (c .with-state .ensures)
+returns c = rw (c .entered .ensures)
 
 pub set-status-spec : {M : Type 1} → statement M
 set-status-spec =

@@ -8,7 +8,7 @@ use Rattle.leaf_table.proofs.internal.unblocked.Tie as tie
 
 returns : tie.Need-returns
 unfolding unblocked
-returns c = taken _ _ _ _ (search tests) (c .with-state .ensures)
+returns c = taken _ _ _ _ (search tests) (c .entered .ensures)
 
 returns-2 : tie.Need-returns-2
 unfolding unblocked

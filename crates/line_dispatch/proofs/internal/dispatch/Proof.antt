@@ -4,8 +4,7 @@ use Rattle.line_dispatch.proofs.Listing.{sixteen}
 use Rattle.line_dispatch.proofs.Plain.{plain}
 use native.Mathlib.Omega.{arith}
 use mathlib.Core.Path.{refl, _∙_}
-use mir.Facts.{toZ-ofZ}
-use mir.Syntax.{w32}
+use Rattle.base.specs.Choice.{if_then_else_}
 use Rattle.line_dispatch.specs.Dispatch.{answerTo, wordsAfter, addedTo}
 use borrow.Author.Needs.{needs}
 use Rattle.line_dispatch.proofs.internal.dispatch.Statement.{statement}
@@ -32,8 +31,13 @@ returns-23 c =
     let enough = sixteen _ _ _ (c .before .before .before .before .before .before .if1 .left) in
     rw (c .before .before .before .before .before .before .before .enum-told22 .given .1) ((c .before .before .list2 .ensures .0 .0 ∙ enough .0, refl, same-text (enough .1) (c .before .before .list2 .ensures .0 .1)), c .before .before .list2 .ensures .1)
 
+returns-24 : tie.Need-returns-24
+unfolding if_then_else_
+returns-24 c = plain _ _ _ (c .before .enum-told23 .given .1) refl (c .other .ensures)
+
 returns-25 : tie.Need-returns-25
-returns-25 c = plain _ _ _ (c .before .before .enum-told24 .given .1) refl (rw (← c .before .signed .ensures) (rw (toZ-ofZ {w = w32} {z = c .before .signed .result} (record { sfits = c .before .signed .ok })) at (c .set-syscall-result .ensures)))
+unfolding if_then_else_
+returns-25 c = plain _ _ _ (c .before .enum-told24 .given .1) refl (c .other2 .ensures)
 
 returns-26 : tie.Need-returns-26
 unfolding answerTo wordsAfter addedTo
@@ -42,6 +46,14 @@ returns-26 c = rw (c .before .before .before .before .before .before .before .en
 returns-27 : tie.Need-returns-27
 unfolding answerTo wordsAfter addedTo
 returns-27 c = rw (c .before .before .before .before .enum-told26 .given .1) ((c .before .before .init .ensures .0, c .before .before .init .ensures .1, nothing-written _ _), omega arith)
+
+returns-28 : tie.Need-returns-28
+unfolding if_then_else_
+returns-28 c = plain _ _ _ (c .before .enum-told27 .given .1) refl (c .other3 .ensures)
+
+returns-29 : tie.Need-returns-29
+unfolding if_then_else_
+returns-29 c = plain _ _ _ (c .before .enum-told28 .given .1) refl (c .other4 .ensures)
 
 pub dispatch-spec : {M : Type 1} → statement M
 dispatch-spec =
@@ -98,11 +110,14 @@ dispatch-spec =
     (λ c κs. search needs)
     (λ c. search needs)
     (λ c κs. search needs)
-    (λ c κs. search needs)
     (λ c. search needs)
     (λ c. search needs)
     (λ c κs. search needs)
     (λ c κs. search needs)
+    (λ c κs. search needs)
+    (λ c. search needs)
+    (λ c κs. search needs)
+    (λ c. search needs)
     (λ c κs. search needs)
     (λ c. search needs)
     (λ c κs. search needs)
@@ -135,9 +150,11 @@ dispatch-spec =
     (λ c. search needs)
     (λ c. search needs)
     returns-23
-    (λ c. plain _ _ _ (c .before .enum-told23 .given .1) refl (c .current-task-id .ensures))
+    returns-24
     returns-25
     (λ c. search needs)
     returns-26
     (λ c. search needs)
-    returns-27)
+    returns-27
+    returns-28
+    returns-29)

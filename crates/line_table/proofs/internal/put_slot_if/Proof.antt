@@ -1,19 +1,15 @@
 -- `put_slot_if` meets its contract: nothing, or the byte between and the slot.
-use mathlib.Core.Bool.{Bool, true, false, not}
-use mathlib.Core.Path.{refl, _≡_, sym}
+use mathlib.Core.Path.{refl}
 use native.Mathlib.Omega.{arith}
 use borrow.Author.Needs.{needs}
+use borrow.Author.Tests.{not-true}
 use Rattle.base.proofs.Choices.{taken, left, not-clear}
 use Rattle.line_text.proofs.Writing.{nothing-written, written-then, same-text}
 use Rattle.line_table.proofs.internal.put_slot_if.Statement.{statement}
 use Rattle.line_table.proofs.internal.put_slot_if.Tie as tie
 
-unoccupied : (b : Bool) → not b ≡ true → b ≡ false
-unoccupied true e = sym e
-unoccupied false e = refl
-
 returns : tie.Need-returns
-returns c = (same-text (left _ _ _ _ (unoccupied _ (c .if1 .taken)) refl) (nothing-written _ _), omega arith)
+returns c = (same-text (left _ _ _ _ (not-true _ (c .if1 .taken)) refl) (nothing-written _ _), omega arith)
 
 returns-2 : tie.Need-returns-2
 returns-2 c = (same-text (taken _ _ _ _ (not-clear _ (c .before .before .before .before .before .before .before .before .if1 .left)) refl) (written-then _ _ (c .before .before .before .before .before .before .put-between .ensures .0) (c .before .before .put-slot .ensures .0)), omega (arith, c .before .before .before .before .before .before .put-between .ensures .1, c .before .before .put-slot .ensures .1))

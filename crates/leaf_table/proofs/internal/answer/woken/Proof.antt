@@ -12,7 +12,7 @@ returns c = rw (le-ltb _ 16 (c .before .if1 .taken)) (c .accepted .ensures)
 
 returns-2 : tie.Need-returns-2
 unfolding if_then_else_
-returns-2 c = rw (lt-ltb _ 16 (c .before .before .before .if1 .left), ← c .before .with-state .ensures) (c .accepted2 .ensures)
+returns-2 c = rw (lt-ltb _ 16 (c .before .before .before .if1 .left), ← c .before .entered .ensures) (c .accepted2 .ensures)
 
 pub woken-spec : {M : Type 1} → statement M
 woken-spec =

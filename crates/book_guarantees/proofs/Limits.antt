@@ -1,0 +1,291 @@
+-- The limit guarantee. That a limit's task is queued, and the limit ahead, holds of every fresh kernel and is kept by every change; tick_count rises by the accepted ticks.
+use Prim.Native.Nat.{ℕ, zero, suc, _+_, min, _≤_, _<_}
+use native.Mathlib.Decide.{decLt}
+use native.Mathlib.Omega.{arith}
+use mathlib.Core.Path.{_≡_, refl, sym, ap, subst, _∙_}
+use mathlib.Core.Bool.{Bool, true, false, false≢true}
+use mathlib.Core.List.{List, [], _∷_}
+use mathlib.Core.Logic.{_⊎_, inl, inr, ⊎-elim}
+use lib.Dec.{eqb}
+use lib.ListN.{length, getD, set, length-set}
+use lib.Seq.{getD-set-same}
+use borrow.Author.Tests.{eqb-true, eqb-false, eq-eqb, ltb-true}
+use Rattle.base.specs.Choice.{if_then_else_}
+use Rattle.base.proofs.Choices.{and-left, and-right, either}
+use Rattle.base.proofs.Choices
+use Rattle.base.proofs.Loops.{set-each, tabulate-length}
+use Rattle.kernel.specs.declared.control.TaskId.{TaskId}
+use Rattle.kernel.specs.declared.control.LimitObject.{LimitObject}
+use Rattle.kernel.specs.declared.control.LimitObject.the-variants.{NoLimit, AtSemaphore, AtEvent}
+use Rattle.kernel.specs.declared.control.TaskState.the-variants.{Running, Blocked}
+use Rattle.kernel.specs.declared.control.TaskControl.{TaskControl}
+use Rattle.kernel.specs.declared.wait_queue.WaitQueue.{WaitQueue}
+use Rattle.kernel.specs.declared.semaphore.Semaphore.{Semaphore}
+use Rattle.kernel.specs.declared.event.Event.{Event}
+use Rattle.kernel.specs.declared.scheduler.Kernel.{Kernel}
+use Rattle.kernel.specs.declared.scheduler.Value.the-variants.{YesNo}
+use Rattle.kernel.specs.declared.scheduler.Answer.{Answer}
+use Rattle.kernel.specs.Control.{inState, isLimit, hasLimit, objectFits, entered, blankSlot}
+use Rattle.kernel.specs.Update.{withLimit}
+use Rattle.kernel.specs.WaitQueue.{contains, isFull, pushed, enqueued, placeWithout, without, isEmpty, head, popped, removed}
+use Rattle.kernel.specs.Kernel.{slot, current, semaphore, event, freshKernel}
+use Rattle.kernel.specs.Scheduler.{contextSaved, limited}
+use Rattle.kernel.specs.Scheduler
+use Rattle.kernel.specs.Semaphore
+use Rattle.kernel.specs.Semaphore.{hasPermit}
+use Rattle.kernel.specs.Event
+use Rattle.kernel.specs.Calls.{Call, tick, acquire-within, event-wait-within, Kind, number, value, valueNumber, effect, step, Reached, called}
+use Rattle.kernel.proofs.Queue.{enqueued-keeps, popped-keeps, removed-keeps}
+use Rattle.kernel.proofs.Whole.{Whole}
+use Rattle.kernel.proofs.Accepted.{accepted-is, accepted-at}
+use Rattle.kernel.proofs.Changes.{TaskChange, same, state, asleep, ended, waiter, answered, passed, less, full, saved, QueueChange, still, joined, left, out, Unlimited, absent, present, queueIn, owner-each, Change, task, begins, clock, permits, flag, handoff, owner, added, reaped, begun, turned}
+use Rattle.kernel.proofs.Owned.{Owned, Sound, empty-table, fresh-sound, change-sound}
+use Rattle.kernel.proofs.Reached.{reached-by}
+use Rattle.book_guarantees.specs.Lists.{Entry, after, Each, Returned, end, Outcome, turn, tick as ticked, other, outcomeOf, outcome}
+use Rattle.book_guarantees.specs.Limits.{lastTick, Limited, Waiting, tickOf, ticks, WithLimit, acquiring, waiting, Keeps, EndsWithin, LimitGuarantee}
+use Rattle.book_guarantees.proofs.Invariant.{by-priority}
+use Rattle.book_guarantees.proofs.TurnGuarantee.{Fact, entry-fact, reached-invariant}
+use Rattle.kernel.specs.Scheduler.{priorityOf}
+use Rattle.book_guarantees.proofs.Wakings.{is-blocked, answers, accepts, of-step, told}
+
+-- ---- the invariant
+
+abbrev Ahead : ℕ → ℕ → Type 0
+Ahead now n = (now < n) ⊎ ((now ≡ lastTick) × (n ≡ lastTick))
+
+-- of a task that has a limit, in a kernel with these queues and this tick_count
+abbrev Holds : List Semaphore → List Event → ℕ → TaskControl → Type 0
+Holds ss es now t = t .occupied ≡ true → hasLimit t ≡ true → (contains (queueIn (t .«limit_object») ss es) (t .id) ≡ true) × Ahead now (t .«limit_tick»)
+
+record Kept (k : Kernel) : Type 0 where
+  tick : k .«tick_count» ≤ lastTick
+  semaphore-ids : (s : ℕ) → s < 4 → length (semaphore k s .waiters .ids) ≡ 8
+  event-ids : (e : ℕ) → e < 4 → length (event k e .waiters .ids) ≡ 8
+  holds : (i : ℕ) → i < 16 → Holds (k .semaphores) (k .events) (k .«tick_count») (slot k i)
+
+record Queued (k : Kernel) : Type 0 where
+  sound : Sound k
+  limits : Kept k
+
+-- ---- tasks
+
+task-holds : (ss : List Semaphore) (es : List Event) (now : ℕ) {g : Kind} {t u : TaskControl} → TaskChange g t u → Holds ss es now t → Holds ss es now u
+unfolding contextSaved
+task-holds ss es now same h = h
+task-holds ss es now (state s n) h = λ _ l. absurd (false≢true l)
+task-holds ss es now (asleep n) h = λ _ l. absurd (false≢true l)
+task-holds ss es now ended h = λ _ l. absurd (false≢true l)
+task-holds ss es now (waiter a) h = h
+task-holds ss es now (answered r) h = h
+task-holds ss es now passed h = λ _ l. absurd (false≢true l)
+task-holds ss es now (less n q) h = h
+task-holds ss es now full h = h
+task-holds ss es now (saved {t = t} sp) h = either (Holds ss es now) (inState Running t) (λ _ _ l. absurd (false≢true l)) (λ _. h)
+
+-- ---- queues
+
+queue-sized : {P : TaskId → Type 0} {a : TaskId} {q r : WaitQueue} → QueueChange P a q r → length (q .ids) ≡ 8 → length (r .ids) ≡ 8
+unfolding enqueued pushed popped removed without
+queue-sized still h = h
+queue-sized {a = a} (joined {q = q}) h = either (λ (x : WaitQueue). length (x .ids) ≡ 8) (contains q a) (λ _. h) (λ _. either (λ (x : WaitQueue). length (x .ids) ≡ 8) (isFull q) (λ _. h) (λ _. length-set (q .ids) (q .len) a ∙ h))
+queue-sized (left {r = r} p c) h = either (λ (x : WaitQueue). length (x .ids) ≡ 8) (isEmpty r) (λ _. queue-sized c h) (λ _. tabulate-length (placeWithout r 0) 8)
+queue-sized (out {q = q} b p) h = either (λ (x : WaitQueue). length (x .ids) ≡ 8) (contains q b) (λ _. tabulate-length (placeWithout q _) 8) (λ _. h)
+
+-- whoever has a limit is not among those who leave
+not-among : (k : Kernel) → Owned k → (i : ℕ) → i < 16 → slot k i .occupied ≡ true → hasLimit (slot k i) ≡ true → (b : TaskId) → Unlimited k b → b .0 ≡ slot k i .id .0 → ⊥
+not-among k w i h o l b (absent none) e = false≢true (sym (none i h) ∙ rw (o, eq-eqb (slot k i .id .0) (b .0) (sym e)))
+not-among k w i h o l b (present j g held n) e =
+    let j-is-i : j ≡ i = w .apart j i (and-left _ _ held) o (eqb-true _ _ (and-right (slot k j .occupied) _ held) ∙ e) in
+    false≢true (sym n ∙ rw j-is-i l)
+
+queue-keeps : {k : Kernel} {a : TaskId} {q r : WaitQueue} (b : TaskId) → ((c : TaskId) → Unlimited k c → c .0 ≡ b .0 → ⊥) → QueueChange (Unlimited k) a q r → contains q b ≡ true → contains r b ≡ true
+queue-keeps b n still e = e
+queue-keeps {a = a} b n (joined {q = q}) e = enqueued-keeps q a b e
+queue-keeps b n (left {r = r} p c) e = popped-keeps r b (n (head r) p) (queue-keeps b n c e)
+queue-keeps b n (out {q = q} c p) e = removed-keeps q c b (n c p) e
+
+-- a semaphore replaced, an event replaced
+in-semaphores : (o : LimitObject) (ss : List Semaphore) (es : List Event) (s : ℕ) (x : Semaphore) (b : TaskId) → (contains (queueIn (AtSemaphore s) ss es) b ≡ true → contains (x .waiters) b ≡ true) → contains (queueIn o ss es) b ≡ true → contains (queueIn o (set ss s x) es) b ≡ true
+in-semaphores NoLimit ss es s x b f e = e
+in-semaphores (AtSemaphore r) ss es s x b f e = set-each (λ j (y : Semaphore). contains (queueIn (AtSemaphore j) ss es) b ≡ true → contains (y .waiters) b ≡ true) _ ss s x f (λ _ h. h) r e
+in-semaphores (AtEvent v) ss es s x b f e = e
+
+in-events : (o : LimitObject) (ss : List Semaphore) (es : List Event) (v : ℕ) (x : Event) (b : TaskId) → (contains (queueIn (AtEvent v) ss es) b ≡ true → contains (x .waiters) b ≡ true) → contains (queueIn o ss es) b ≡ true → contains (queueIn o ss (set es v x)) b ≡ true
+in-events NoLimit ss es v x b f e = e
+in-events (AtSemaphore s) ss es v x b f e = e
+in-events (AtEvent r) ss es v x b f e = set-each (λ j (y : Event). contains (queueIn (AtEvent j) ss es) b ≡ true → contains (y .waiters) b ≡ true) _ es v x f (λ _ h. h) r e
+
+-- the queue of an object that is there has eight places
+sized-at : (k : Kernel) → Kept k → (o : LimitObject) → objectFits o ≡ true → length (queueIn o (k .semaphores) (k .events) .ids) ≡ 8
+sized-at k q NoLimit f = refl
+sized-at k q (AtSemaphore s) f = q .semaphore-ids s (ltb-true _ _ f)
+sized-at k q (AtEvent e) f = q .event-ids e (ltb-true _ _ f)
+
+-- ---- each change
+
+begins-ahead : (now n : ℕ) → now ≤ lastTick → 0 < n → Ahead now (min (now + n) lastTick)
+begins-ahead now n h p =
+    elim (decLt now lastTick) [
+      | yes l ↦ inl (omega arith)
+      | no l ↦ inr (omega arith, omega arith)
+    ]
+
+one-slot : (k : Kernel) → Kept k → (i : ℕ) (u : TaskControl) → (i < 16 → Holds (k .semaphores) (k .events) (k .«tick_count») u) → (j : ℕ) → j < 16 → Holds (k .semaphores) (k .events) (k .«tick_count») (getD (set (k .tasks) i u) j blankSlot)
+one-slot k q i u f = set-each (λ j t. j < 16 → Holds (k .semaphores) (k .events) (k .«tick_count») t) blankSlot (k .tasks) i u f (q .holds)
+
+-- only tasks are altered
+tasks-kept : (k k′ : Kernel) → k′ .«tick_count» ≡ k .«tick_count» → k′ .semaphores ≡ k .semaphores → k′ .events ≡ k .events → ((j : ℕ) → j < 16 → Holds (k .semaphores) (k .events) (k .«tick_count») (slot k′ j)) → Kept k → Kept k′
+tasks-kept k k′ t s e h q = record { tick = rw t (q .tick); semaphore-ids = rw s (q .semaphore-ids); event-ids = rw e (q .event-ids); holds = rw (t, s, e) h }
+
+change-kept : (g : Kind) (k k′ : Kernel) → Change g k k′ → Sound k → Kept k → Kept k′
+unfolding Scheduler.add
+change-kept g k k′ (task i u h c) w q = tasks-kept k k′ refl refl refl (one-slot k q i u (λ l. task-holds _ _ _ c (q .holds i l))) q
+change-kept g k k′ (begins o n h b f p s) w q =
+    tasks-kept k k′ refl refl refl (one-slot k q (current k) _ (λ _ _ _. (s (sized-at k q o f), begins-ahead (k .«tick_count») n (q .tick) p))) q
+change-kept g k k′ (clock l a) w q = record {
+  tick = omega (arith, q .tick, l);
+  semaphore-ids = q .semaphore-ids;
+  event-ids = q .event-ids;
+  holds = λ i h o m. (q .holds i h o m .0, inl (a i h o m));
+}
+change-kept g k k′ (permits s n r h c) w q = record {
+  tick = q .tick;
+  semaphore-ids = set-each (λ j (y : Semaphore). j < 4 → length (y .waiters .ids) ≡ 8) _ (k .semaphores) s _ (λ l. queue-sized c (q .semaphore-ids s l)) (q .semaphore-ids);
+  event-ids = q .event-ids;
+  holds = λ i l o m. (in-semaphores (slot k i .«limit_object») (k .semaphores) (k .events) s _ (slot k i .id) (queue-keeps (slot k i .id) (not-among k (w .owned) i l o m) c) (q .holds i l o m .0), q .holds i l o m .1);
+}
+change-kept g k k′ (flag v n r h c) w q = record {
+  tick = q .tick;
+  semaphore-ids = q .semaphore-ids;
+  event-ids = set-each (λ j (y : Event). j < 4 → length (y .waiters .ids) ≡ 8) _ (k .events) v _ (λ l. queue-sized c (q .event-ids v l)) (q .event-ids);
+  holds = λ i l o m. (in-events (slot k i .«limit_object») (k .semaphores) (k .events) v _ (slot k i .id) (queue-keeps (slot k i .id) (not-among k (w .owned) i l o m) c) (q .holds i l o m .0), q .holds i l o m .1);
+}
+change-kept g k k′ (handoff m h r l c) w q = tasks-kept k k′ refl refl refl (q .holds) q
+change-kept g k k′ (owner m x from to h r l d c) w q =
+    tasks-kept k k′ refl refl refl
+    (owner-each (λ y. (j : ℕ) → j < 16 → Holds (k .semaphores) (k .events) (k .«tick_count») (slot y j)) (λ y i n _ f. set-each (λ j t. j < 16 → Holds (k .semaphores) (k .events) (k .«tick_count») t) blankSlot (y .tasks) i _ (f i) f) from to k (q .holds)) q
+change-kept g k k′ (added p r free region) w q = tasks-kept k k′ refl refl refl (one-slot k q _ _ (λ _ _ l. absurd (false≢true l))) q
+change-kept g k k′ (reaped x h idle running on) w q = tasks-kept k k′ refl refl refl (one-slot k q x blankSlot (λ _ _ l. absurd (false≢true l))) q
+change-kept g k k′ (begun x h o) w q = tasks-kept k k′ refl refl refl (one-slot k q _ _ (λ _ _ l. absurd (false≢true l))) q
+change-kept g k k′ (turned x h o) w q = tasks-kept k k′ refl refl refl (one-slot k q _ _ (λ _ _ l. absurd (false≢true l))) q
+
+-- ---- from fresh
+
+fresh-kept : (hz words : ℕ) → Kept (freshKernel hz words)
+unfolding freshKernel
+fresh-kept hz words = record { tick = omega arith; semaphore-ids = four-semaphores; event-ids = four-events; holds = λ i h o l. absurd (false≢true (sym (no-limit i) ∙ l)) }
+  where
+    four-semaphores : (s : ℕ) → s < 4 → length (semaphore (freshKernel hz words) s .waiters .ids) ≡ 8
+    four-semaphores zero h = refl
+    four-semaphores (suc zero) h = refl
+    four-semaphores (suc (suc zero)) h = refl
+    four-semaphores (suc (suc (suc zero))) h = refl
+    four-semaphores (suc (suc (suc (suc s)))) h = absurd (omega arith)
+
+    four-events : (e : ℕ) → e < 4 → length (event (freshKernel hz words) e .waiters .ids) ≡ 8
+    four-events zero h = refl
+    four-events (suc zero) h = refl
+    four-events (suc (suc zero)) h = refl
+    four-events (suc (suc (suc zero))) h = refl
+    four-events (suc (suc (suc (suc e)))) h = absurd (omega arith)
+
+    no-limit : (i : ℕ) → hasLimit (slot (freshKernel hz words) i) ≡ false
+    no-limit zero = refl
+    no-limit (suc i) = ap hasLimit (empty-table 15 i)
+
+queued : {k : Kernel} → Reached k → Queued k
+queued = reached-by Queued (λ hz words e. record { sound = fresh-sound hz words e; limits = fresh-kept hz words }) (λ g k k′ c q. record { sound = change-sound g k k′ c (q .sound); limits = change-kept g k k′ c (q .sound) (q .limits) })
+
+-- ---- the statements
+
+kept : (k : Kernel) → Reached k → (i : ℕ) → Limited k i → Waiting k i
+kept k r i l =
+    let q = queued r in
+    let fits = q .sound .is .limits i (l .inside) (l .present) (l .limit) in
+    let h = q .limits .holds i (l .inside) (l .present) (l .limit) in
+    record {
+      blocked = is-blocked (slot k i .state) (fits .0);
+      at-semaphore = λ s e. (ltb-true s 4 (rw e at (fits .1)), rw e at (h .0));
+      at-event = λ s e. (ltb-true s 4 (rw e at (fits .1)), rw e at (h .0));
+      ahead = h .1;
+    }
+
+-- an entry that a list has after k
+fact : {k : Kernel} (e : Entry) → Reached k → e .answer ≡ step k (e .call) → Fact priorityOf k (outcome e) (after e)
+fact {k} e r s = entry-fact priorityOf by-priority k e (reached-invariant priorityOf by-priority r) s
+
+reached-next : {k : Kernel} (e : Entry) → Reached k → e .answer ≡ step k (e .call) → Reached (after e)
+reached-next e r s = subst (λ (a : Answer). Reached (a .kernel)) (sym s) (called (e .call) r)
+
+reached-end : {k : Kernel} (es : List Entry) → Reached k → Returned k es → Reached (end k es)
+reached-end [] r s = r
+reached-end (e ∷ es) r s = reached-end es (reached-next e r (s .0)) (s .1)
+
+-- tick_count rises by the accepted ticks
+rises : {k : Kernel} (es : List Entry) → Reached k → Returned k es → end k es .«tick_count» ≡ k .«tick_count» + ticks es
+rises [] r s = omega arith
+rises (e ∷ es) r s = omega (arith, fact e r (s .0) .clock, rises es (reached-next e r (s .0)) (s .1))
+
+-- a limit that is kept all along lies ahead after the last of the accepted ticks
+kept-ahead : {k : Kernel} (i t : ℕ) (es : List Entry) → Reached k → Returned k es → Each (λ e. Keeps i t (after e)) es → (ticks es ≡ 0) ⊎ (k .«tick_count» + ticks es < t)
+kept-ahead i t [] r s h = inl refl
+kept-ahead {k} i t (e ∷ es) r s h =
+    let f = fact e r (s .0) in
+    let l = h .0 .limited in
+    go (outcome e) (f .clock) (λ w q. omega (arith, f .ahead w q i (l .inside) (l .present) (l .limit), h .0 .until)) (kept-ahead i t es (reached-next e r (s .0)) (s .1) (h .1))
+  where
+    go : (v : Outcome) → after e .«tick_count» ≡ k .«tick_count» + tickOf v → ((w : Bool) → v ≡ ticked w → after e .«tick_count» < t) → (ticks es ≡ 0) ⊎ (after e .«tick_count» + ticks es < t) → (tickOf v + ticks es ≡ 0) ⊎ (k .«tick_count» + (tickOf v + ticks es) < t)
+    go (turn s) c a (inl z) = inl (omega (arith, z))
+    go (turn s) c a (inr z) = inr (omega arith)
+    go (ticked w) c a (inl z) = inr (omega (arith, a w refl))
+    go (ticked w) c a (inr z) = inr (omega arith)
+    go other c a (inl z) = inl (omega (arith, z))
+    go other c a (inr z) = inr (omega arith)
+
+-- what follows from the limit that the call leaves
+ends-within : (k k′ : Kernel) (i n : ℕ) → Reached k′ → k′ .«tick_count» ≡ k .«tick_count» → 0 < n → Keeps i (min (k .«tick_count» + n) lastTick) k′ → EndsWithin k′ i n (min (k .«tick_count» + n) lastTick)
+ends-within k k′ i n r c p b = record {
+  begins = b;
+  fewer = λ es s h. ⊎-elim (λ z. omega (arith, z)) (λ z. omega (arith, z, c)) (kept-ahead i _ es r s h);
+  over = λ es s m h.
+      let l = h .limited in
+      ⊎-elim (λ z. let o : ⊥ = omega (arith, z, h .until, rises es r s, c, m) in absurd o) (λ z. z .0) (kept (end k′ es) (reached-end es r s) i l .ahead);
+}
+
+-- the task that was current, with its limit
+current-keeps : (k : Kernel) (o : LimitObject) (n : ℕ) (x : Kernel) → Sound k → x .tasks ≡ Scheduler.block k .tasks → current x ≡ current k → x .«tick_count» ≡ k .«tick_count» → isLimit o ≡ true → Keeps (current k) (min (k .«tick_count» + n) lastTick) (limited o n x)
+current-keeps k o n x w tasks now up l =
+    let size : current k < length (k .tasks) = omega (arith, w .owned .slots, w .is .current-slot) in
+    let was : slot x (current k) ≡ entered Blocked (slot k (current k)) = ap (λ (ts : List TaskControl). getD ts (current k) blankSlot) tasks ∙ getD-set-same (k .tasks) (current k) _ blankSlot size in
+    let here : slot (limited o n x) (current k) ≡ withLimit o (min (x .«tick_count» + n) lastTick) (slot x (current k)) = rw now (getD-set-same (x .tasks) (current k) _ blankSlot (omega (arith, size, ap length tasks, length-set (k .tasks) (current k) (entered Blocked (slot k (current k)))))) in
+    record {
+      limited = record { inside = w .is .current-slot; present = rw (here, was) (w .is .running); limit = rw here l };
+      until = rw (here, up);
+    }
+
+ends : (k : Kernel) → Reached k → (n : ℕ) (c : Call) → WithLimit n c → step k c .value ≡ YesNo false → EndsWithin (step k c .kernel) (current k) n (min (k .«tick_count» + n) lastTick)
+unfolding value effect Semaphore.acquireWithin Event.eventWaitWithin
+ends k r n c (acquiring s m) v =
+    let e = answers k c false v in
+    let blocked : hasPermit s k ≡ false = told k c false (hasPermit s k) refl v in
+    of-step (λ (a : Answer). Reached (a .kernel) → EndsWithin (a .kernel) (current k) n (min (k .«tick_count» + n) lastTick)) k c e
+    (either (λ (x : Kernel). Reached x → EndsWithin x (current k) n (min (k .«tick_count» + n) lastTick)) (hasPermit s k) (λ f. absurd (false≢true (sym blocked ∙ f)))
+    (λ _ q. ends-within k _ (current k) n q refl (omega (arith, eqb-false m 0 (accepted-at k c 2 refl e))) (current-keeps k (AtSemaphore s) n (Semaphore.blockedOnSemaphore s k) (queued r .sound) refl refl refl refl)))
+    (called c r)
+ends k r n c (waiting s m) v =
+    let e = answers k c false v in
+    let blocked : event k s .signaled ≡ false = told k c false (event k s .signaled) refl v in
+    of-step (λ (a : Answer). Reached (a .kernel) → EndsWithin (a .kernel) (current k) n (min (k .«tick_count» + n) lastTick)) k c e
+    (either (λ (x : Kernel). Reached x → EndsWithin x (current k) n (min (k .«tick_count» + n) lastTick)) (event k s .signaled) (λ f. absurd (false≢true (sym blocked ∙ f)))
+    (λ _ q. ends-within k _ (current k) n q refl (omega (arith, eqb-false m 0 (accepted-at k c 2 refl e))) (current-keeps k (AtEvent s) n (Event.blockedOnEvent s k) (queued r .sound) refl refl refl refl)))
+    (called c r)
+
+ticked-ahead : (k : Kernel) → Reached k → step k tick .number ≡ 0 → (i : ℕ) → Limited (step k tick .kernel) i → step k tick .kernel .«tick_count» < slot (step k tick .kernel) i .«limit_tick»
+unfolding outcome outcomeOf effect value if_then_else_
+ticked-ahead k r z i l =
+    let e = accepts k tick z in
+    let was = of-step (λ (a : Answer). outcome (record { call = tick; answer = a }) ≡ ticked (eqb (valueNumber (value k tick)) 1)) k tick e refl in
+    fact (record { call = tick; answer = step k tick }) r refl .ahead _ was i (l .inside) (l .present) (l .limit)
+
+pub limit-guarantee : LimitGuarantee
+limit-guarantee = record { kept = kept; passed = ticked-ahead; ends = ends }

@@ -1,0 +1,73 @@
+-- What the book says of a wait with a limit (02, W-202): of every kernel that a list of calls reaches from fresh, and of every list after the call.
+use Prim.Native.Nat.{ℕ, _+_, _-_, _^_, min, _≤_, _<_}
+use mathlib.Core.Path.{_≡_}
+use mathlib.Core.Bool.{true, false}
+use mathlib.Core.List.{List, [], _∷_}
+use mathlib.Core.Logic.{_⊎_}
+use Rattle.kernel.specs.declared.control.LimitObject.the-variants.{AtSemaphore, AtEvent}
+use Rattle.kernel.specs.declared.control.TaskState.the-variants.{Blocked}
+use Rattle.kernel.specs.declared.scheduler.Kernel.{Kernel}
+use Rattle.kernel.specs.declared.scheduler.Value.the-variants.{YesNo}
+use Rattle.kernel.specs.Control.{hasLimit}
+use Rattle.kernel.specs.WaitQueue.{contains}
+use Rattle.kernel.specs.Kernel.{slot, current, semaphore, event}
+use Rattle.kernel.specs.Calls.{Call, tick, acquire-within, event-wait-within, step, Reached}
+use Rattle.book_guarantees.specs.Lists.{Entry, after, Each, Returned, end, Outcome, turn, tick as ticked, other, outcome}
+
+-- where no tick comes any more
+abbrev pub lastTick : ℕ
+lastTick = 2 ^ 64 - 1
+
+-- the task in slot i is present and has a limit
+pub record Limited (k : Kernel) (i : ℕ) : Type 0 where
+  pub inside : i < 16
+  pub present : slot k i .occupied ≡ true
+  pub limit : hasLimit (slot k i) ≡ true
+
+-- what then holds of it
+pub record Waiting (k : Kernel) (i : ℕ) : Type 0 where
+  pub blocked : slot k i .state ≡ Blocked
+  -- it stands in the queue of the object
+  pub at-semaphore : (s : ℕ) → slot k i .«limit_object» ≡ AtSemaphore s → (s < 4) × (contains (semaphore k s .waiters) (slot k i .id) ≡ true)
+  pub at-event : (e : ℕ) → slot k i .«limit_object» ≡ AtEvent e → (e < 4) × (contains (event k e .waiters) (slot k i .id) ≡ true)
+  -- the limit lies after tick_count; where no tick comes any more it may be the last one itself
+  pub ahead : (k .«tick_count» < slot k i .«limit_tick») ⊎ ((k .«tick_count» ≡ lastTick) × (slot k i .«limit_tick» ≡ lastTick))
+
+-- ---- lists after the call
+
+-- how many ticks of a list were accepted
+abbrev pub tickOf : Outcome → ℕ
+tickOf (turn s) = 0
+tickOf (ticked w) = 1
+tickOf other = 0
+
+abbrev pub ticks : List Entry → ℕ
+ticks [] = 0
+ticks (e ∷ es) = tickOf (outcome e) + ticks es
+
+-- a call with a limit of so many ticks
+pub data WithLimit : ℕ → Call → Type 0 where
+  acquiring : (s n : ℕ) → WithLimit n (acquire-within s n)
+  waiting : (e n : ℕ) → WithLimit n (event-wait-within e n)
+
+-- slot i has that limit: it ends at tick t
+pub record Keeps (i t : ℕ) (k : Kernel) : Type 0 where
+  pub limited : Limited k i
+  pub until : slot k i .«limit_tick» ≡ t
+
+-- k′ is the kernel that the call returned, i the slot that was current, n its limit and t the tick at which that ends
+pub record EndsWithin (k′ : Kernel) (i n t : ℕ) : Type 0 where
+  -- the limit begins
+  pub begins : Keeps i t k′
+  -- as long as it is kept, fewer than n ticks were accepted: with the n-th at the latest it has ended
+  pub fewer : (es : List Entry) → Returned k′ es → Each (λ e. Keeps i t (after e)) es → ticks es < n
+  -- so no list with n accepted ticks leaves the task with that limit; but at the last tick it may have begun another, which ends there too
+  pub over : (es : List Entry) → Returned k′ es → n ≤ ticks es → Keeps i t (end k′ es) → end k′ es .«tick_count» ≡ lastTick
+
+pub record LimitGuarantee : Type 0 where
+  -- "a task with a limit is Blocked and stands in that object's queue, and the limit lies after tick_count"
+  pub kept : (k : Kernel) → Reached k → (i : ℕ) → Limited k i → Waiting k i
+  -- after an accepted tick every limit lies after tick_count, the last tick included
+  pub passed : (k : Kernel) → Reached k → step k tick .number ≡ 0 → (i : ℕ) → Limited (step k tick .kernel) i → step k tick .kernel .«tick_count» < slot (step k tick .kernel) i .«limit_tick»
+  -- "a limited wait ends within its limit of ticks": where the call answers no, it blocked
+  pub ends : (k : Kernel) → Reached k → (n : ℕ) (c : Call) → WithLimit n c → step k c .value ≡ YesNo false → EndsWithin (step k c .kernel) (current k) n (min (k .«tick_count» + n) lastTick)
