@@ -13,7 +13,7 @@ use lib.Seq.{getD-set-same, getD-set-other}
 use borrow.Author.Tests.{eqb-true, eqb-false}
 use Rattle.base.specs.Choice.{if_then_else_}
 use Rattle.base.specs.Below.{anyBelow}
-use Rattle.base.proofs.Choices.{either, taken, left}
+use Rattle.base.proofs.Choices.{and-right, either, taken, left}
 use Rattle.base.proofs.Loops.{set-each}
 use Rattle.kernel.specs.declared.control.TaskControl.{TaskControl}
 use Rattle.kernel.specs.declared.control.TaskState.the-variants.{Ready}
@@ -131,6 +131,14 @@ module _ (k : Kernel) where
       let walked-ahead : (j : ℕ) → j < 16 → LimitAhead (k .«tick_count» + 1) (slot (advanced k) j) = λ j h. rw (walked-before (k .«tick_count» + 1) 16 k j h) (woken-ahead (k .«tick_count» + 1) (slot k j)) in
       either (λ (x : Kernel). (j : ℕ) → j < 16 → LimitAhead (k .«tick_count» + 1) (slot x j)) (advanced k .started && currentRuns (advanced k))
       (λ _. set-each (λ j t. j < 16 → LimitAhead (k .«tick_count» + 1) t) blankSlot (advanced k .tasks) (current (advanced k)) _ (λ h. spent-ahead (currentTask (advanced k)) (walked-ahead (current (advanced k)) h)) walked-ahead) (λ _. walked-ahead)
+
+  -- a slot that the walk leaves at rest is as the walk left it
+  pub tick-slot : (j : ℕ) → j < 16 → runs (woken (k .«tick_count» + 1) (slot k j)) ≡ false → slot (Scheduler.tick k) j ≡ woken (k .«tick_count» + 1) (slot k j)
+  unfolding Scheduler.tick sliced advanced clocked
+  tick-slot j h rest =
+      let walk : slot (advanced k) j ≡ woken (k .«tick_count» + 1) (slot k j) = walked-before (k .«tick_count» + 1) 16 k j h in
+      either (λ (x : Kernel). slot x j ≡ woken (k .«tick_count» + 1) (slot k j)) (advanced k .started && currentRuns (advanced k))
+      (λ on. getD-set-other (advanced k .tasks) (current (advanced k)) j (spent (currentTask (advanced k))) blankSlot (λ e. clash (and-right (advanced k .started) _ on) (rw (← e) (ap runs walk ∙ rest))) ∙ walk) (λ _. walk)
 
   pub tick-started : Scheduler.tick k .started ≡ k .started
   tick-started = still .1

@@ -9,10 +9,9 @@ use mathlib.Core.Logic.{_⊎_, inl, inr, ⊎-elim}
 use lib.Dec.{eqb}
 use lib.ListN.{length, getD, set, length-set}
 use lib.Seq.{getD-set-same}
-use borrow.Author.Tests.{eqb-true, eqb-false, eq-eqb, ltb-true}
+use borrow.Author.Tests.{eqb-true, eqb-false, eq-eqb, ltb-true, le-leb, lt-leb}
 use Rattle.base.specs.Choice.{if_then_else_}
 use Rattle.base.proofs.Choices.{and-left, and-right, either}
-use Rattle.base.proofs.Choices
 use Rattle.base.proofs.Loops.{set-each, tabulate-length}
 use Rattle.kernel.specs.declared.control.TaskId.{TaskId}
 use Rattle.kernel.specs.declared.control.LimitObject.{LimitObject}
@@ -25,27 +24,27 @@ use Rattle.kernel.specs.declared.event.Event.{Event}
 use Rattle.kernel.specs.declared.scheduler.Kernel.{Kernel}
 use Rattle.kernel.specs.declared.scheduler.Value.the-variants.{YesNo}
 use Rattle.kernel.specs.declared.scheduler.Answer.{Answer}
-use Rattle.kernel.specs.Control.{inState, isLimit, hasLimit, objectFits, entered, blankSlot}
+use Rattle.kernel.specs.Control.{inState, holdsTask, isLimit, hasLimit, objectFits, entered, expired, blankSlot}
 use Rattle.kernel.specs.Update.{withLimit}
 use Rattle.kernel.specs.WaitQueue.{contains, isFull, pushed, enqueued, placeWithout, without, isEmpty, head, popped, removed}
 use Rattle.kernel.specs.Kernel.{slot, current, semaphore, event, freshKernel}
-use Rattle.kernel.specs.Scheduler.{contextSaved, limited}
+use Rattle.kernel.specs.Scheduler.{contextSaved, limited, isDue, isLimitDue, woken, priorityOf}
 use Rattle.kernel.specs.Scheduler
 use Rattle.kernel.specs.Semaphore
 use Rattle.kernel.specs.Semaphore.{hasPermit}
 use Rattle.kernel.specs.Event
 use Rattle.kernel.specs.Calls.{Call, tick, acquire-within, event-wait-within, Kind, number, value, valueNumber, effect, step, Reached, called}
 use Rattle.kernel.proofs.Queue.{enqueued-keeps, popped-keeps, removed-keeps}
-use Rattle.kernel.proofs.Whole.{Whole}
-use Rattle.kernel.proofs.Accepted.{accepted-is, accepted-at}
+use Rattle.kernel.proofs.Accepted.{accepted-at}
 use Rattle.kernel.proofs.Changes.{TaskChange, same, state, asleep, ended, waiter, answered, passed, less, full, saved, QueueChange, still, joined, left, out, Unlimited, absent, present, queueIn, owner-each, Change, task, begins, clock, permits, flag, handoff, owner, added, reaped, begun, turned}
+use Rattle.kernel.proofs.Unlimited.{inside}
 use Rattle.kernel.proofs.Owned.{Owned, Sound, empty-table, fresh-sound, change-sound}
 use Rattle.kernel.proofs.Reached.{reached-by}
-use Rattle.book_guarantees.specs.Lists.{Entry, after, Each, Returned, end, Outcome, turn, tick as ticked, other, outcomeOf, outcome}
-use Rattle.book_guarantees.specs.Limits.{lastTick, Limited, Waiting, tickOf, ticks, WithLimit, acquiring, waiting, Keeps, EndsWithin, LimitGuarantee}
-use Rattle.book_guarantees.proofs.Invariant.{by-priority}
+use Rattle.book_guarantees.specs.Lists.{Entry, after, Each, Returned, end, Outcome, turn, tick as ticked, other, outcomeOf, outcome, acceptedTick, acceptedTicks}
+use Rattle.book_guarantees.specs.Limits.{lastTick, Limited, Waiting, AtTick, WithLimit, acquiring, waiting, Keeps, EndsWithin, LimitGuarantee}
+use Rattle.book_guarantees.proofs.Fairness.{runs}
+use Rattle.book_guarantees.proofs.Invariant.{by-priority, tick-slot}
 use Rattle.book_guarantees.proofs.TurnGuarantee.{Fact, entry-fact, reached-invariant}
-use Rattle.kernel.specs.Scheduler.{priorityOf}
 use Rattle.book_guarantees.proofs.Wakings.{is-blocked, answers, accepts, of-step, told}
 
 -- ---- the invariant
@@ -198,21 +197,56 @@ queued = reached-by Queued (λ hz words e. record { sound = fresh-sound hz words
 
 -- ---- the statements
 
+-- a present task's slot is one of the sixteen
+sixteen : {k : Kernel} → Reached k → (i : ℕ) → slot k i .occupied ≡ true → i < 16
+sixteen {k} r i o = omega (arith, inside k i o, queued r .sound .owned .slots)
+
 kept : (k : Kernel) → Reached k → (i : ℕ) → Limited k i → Waiting k i
 kept k r i l =
     let q = queued r in
-    let fits = q .sound .is .limits i (l .inside) (l .present) (l .limit) in
-    let h = q .limits .holds i (l .inside) (l .present) (l .limit) in
+    let h = sixteen r i (l .present) in
+    let fits = q .sound .is .limits i h (l .present) (l .limit) in
+    let held = q .limits .holds i h (l .present) (l .limit) in
     record {
       blocked = is-blocked (slot k i .state) (fits .0);
-      at-semaphore = λ s e. (ltb-true s 4 (rw e at (fits .1)), rw e at (h .0));
-      at-event = λ s e. (ltb-true s 4 (rw e at (fits .1)), rw e at (h .0));
-      ahead = h .1;
+      at-semaphore = λ s e. (ltb-true s 4 (rw e at (fits .1)), rw e at (held .0));
+      at-event = λ s e. (ltb-true s 4 (rw e at (fits .1)), rw e at (held .0));
+      ahead = held .1;
     }
+
+-- ---- a tick
+
+waits-due : (now : ℕ) (t : TaskControl) → t .occupied ≡ true → hasLimit t ≡ true → t .«limit_tick» ≤ now → woken now t ≡ expired t
+unfolding woken isLimitDue if_then_else_
+waits-due now t o l d = rw (o, l, le-leb (t .«limit_tick») now d)
+
+waits-on : (now : ℕ) (t : TaskControl) → t .occupied ≡ true → hasLimit t ≡ true → t .state ≡ Blocked → now < t .«limit_tick» → woken now t ≡ t
+unfolding woken isLimitDue isDue holdsTask if_then_else_
+waits-on now t o l b d = rw (o, l, lt-leb (t .«limit_tick») now d, b)
 
 -- an entry that a list has after k
 fact : {k : Kernel} (e : Entry) → Reached k → e .answer ≡ step k (e .call) → Fact priorityOf k (outcome e) (after e)
 fact {k} e r s = entry-fact priorityOf by-priority k e (reached-invariant priorityOf by-priority r) s
+
+ticked-ahead : (k : Kernel) → Reached k → step k tick .number ≡ 0 → (i : ℕ) → Limited (step k tick .kernel) i → step k tick .kernel .«tick_count» < slot (step k tick .kernel) i .«limit_tick»
+unfolding outcome outcomeOf effect value if_then_else_
+ticked-ahead k r z i l =
+    let was = of-step (λ (a : Answer). outcome (record { call = tick; answer = a }) ≡ ticked (eqb (valueNumber (value k tick)) 1)) k tick (accepts k tick z) refl in
+    fact (record { call = tick; answer = step k tick }) r refl .ahead _ was i (sixteen (called tick r) i (l .present)) (l .present) (l .limit)
+
+at-tick : (k : Kernel) → Reached k → step k tick .number ≡ 0 → AtTick k (step k tick .kernel)
+unfolding effect
+at-tick k r z =
+    let e = accepts k tick z in
+    let now = k .«tick_count» + 1 in
+    let to : (i : ℕ) (u : TaskControl) → Limited k i → woken now (slot k i) ≡ u → runs u ≡ false → slot (step k tick .kernel) i ≡ u = λ i u l w n. of-step (λ (a : Answer). slot (a .kernel) i ≡ u) k tick e (tick-slot k i (sixteen r i (l .present)) (ap runs w ∙ n) ∙ w) in
+    record {
+      due = λ i l d. to i _ l (waits-due now (slot k i) (l .present) (l .limit) d) refl;
+      not-due = λ i l d. let b = kept k r i l .blocked in to i _ l (waits-on now (slot k i) (l .present) (l .limit) b d) (rw b);
+      ahead = ticked-ahead k r z;
+    }
+
+-- ---- lists
 
 reached-next : {k : Kernel} (e : Entry) → Reached k → e .answer ≡ step k (e .call) → Reached (after e)
 reached-next e r s = subst (λ (a : Answer). Reached (a .kernel)) (sym s) (called (e .call) r)
@@ -222,19 +256,19 @@ reached-end [] r s = r
 reached-end (e ∷ es) r s = reached-end es (reached-next e r (s .0)) (s .1)
 
 -- tick_count rises by the accepted ticks
-rises : {k : Kernel} (es : List Entry) → Reached k → Returned k es → end k es .«tick_count» ≡ k .«tick_count» + ticks es
+rises : {k : Kernel} (es : List Entry) → Reached k → Returned k es → end k es .«tick_count» ≡ k .«tick_count» + acceptedTicks es
 rises [] r s = omega arith
 rises (e ∷ es) r s = omega (arith, fact e r (s .0) .clock, rises es (reached-next e r (s .0)) (s .1))
 
 -- a limit that is kept all along lies ahead after the last of the accepted ticks
-kept-ahead : {k : Kernel} (i t : ℕ) (es : List Entry) → Reached k → Returned k es → Each (λ e. Keeps i t (after e)) es → (ticks es ≡ 0) ⊎ (k .«tick_count» + ticks es < t)
+kept-ahead : {k : Kernel} (i t : ℕ) (es : List Entry) → Reached k → Returned k es → Each (λ e. Keeps i t (after e)) es → (acceptedTicks es ≡ 0) ⊎ (k .«tick_count» + acceptedTicks es < t)
 kept-ahead i t [] r s h = inl refl
 kept-ahead {k} i t (e ∷ es) r s h =
     let f = fact e r (s .0) in
     let l = h .0 .limited in
-    go (outcome e) (f .clock) (λ w q. omega (arith, f .ahead w q i (l .inside) (l .present) (l .limit), h .0 .until)) (kept-ahead i t es (reached-next e r (s .0)) (s .1) (h .1))
+    go (outcome e) (f .clock) (λ w q. omega (arith, f .ahead w q i (sixteen (reached-next e r (s .0)) i (l .present)) (l .present) (l .limit), h .0 .until)) (kept-ahead i t es (reached-next e r (s .0)) (s .1) (h .1))
   where
-    go : (v : Outcome) → after e .«tick_count» ≡ k .«tick_count» + tickOf v → ((w : Bool) → v ≡ ticked w → after e .«tick_count» < t) → (ticks es ≡ 0) ⊎ (after e .«tick_count» + ticks es < t) → (tickOf v + ticks es ≡ 0) ⊎ (k .«tick_count» + (tickOf v + ticks es) < t)
+    go : (v : Outcome) → after e .«tick_count» ≡ k .«tick_count» + acceptedTick v → ((w : Bool) → v ≡ ticked w → after e .«tick_count» < t) → (acceptedTicks es ≡ 0) ⊎ (after e .«tick_count» + acceptedTicks es < t) → (acceptedTick v + acceptedTicks es ≡ 0) ⊎ (k .«tick_count» + (acceptedTick v + acceptedTicks es) < t)
     go (turn s) c a (inl z) = inl (omega (arith, z))
     go (turn s) c a (inr z) = inr (omega arith)
     go (ticked w) c a (inl z) = inr (omega (arith, a w refl))
@@ -243,49 +277,40 @@ kept-ahead {k} i t (e ∷ es) r s h =
     go other c a (inr z) = inr (omega arith)
 
 -- what follows from the limit that the call leaves
-ends-within : (k k′ : Kernel) (i n : ℕ) → Reached k′ → k′ .«tick_count» ≡ k .«tick_count» → 0 < n → Keeps i (min (k .«tick_count» + n) lastTick) k′ → EndsWithin k′ i n (min (k .«tick_count» + n) lastTick)
-ends-within k k′ i n r c p b = record {
+ends-within : (k k′ : Kernel) (i n : ℕ) (o : LimitObject) → Reached k′ → k′ .«tick_count» ≡ k .«tick_count» → 0 < n → Keeps i (min (k .«tick_count» + n) lastTick) k′ → slot k′ i .«limit_object» ≡ o → EndsWithin k′ i n o (min (k .«tick_count» + n) lastTick)
+ends-within k k′ i n o r c p b x = record {
   begins = b;
+  object = x;
   fewer = λ es s h. ⊎-elim (λ z. omega (arith, z)) (λ z. omega (arith, z, c)) (kept-ahead i _ es r s h);
-  over = λ es s m h.
-      let l = h .limited in
-      ⊎-elim (λ z. let o : ⊥ = omega (arith, z, h .until, rises es r s, c, m) in absurd o) (λ z. z .0) (kept (end k′ es) (reached-end es r s) i l .ahead);
+  over = λ last es s m h. ⊎-elim (λ z. omega (arith, z, h .until, rises es r s, c, m)) (λ z. omega (arith, z .1, h .until, last)) (kept (end k′ es) (reached-end es r s) i (h .limited) .ahead);
 }
 
 -- the task that was current, with its limit
-current-keeps : (k : Kernel) (o : LimitObject) (n : ℕ) (x : Kernel) → Sound k → x .tasks ≡ Scheduler.block k .tasks → current x ≡ current k → x .«tick_count» ≡ k .«tick_count» → isLimit o ≡ true → Keeps (current k) (min (k .«tick_count» + n) lastTick) (limited o n x)
+current-keeps : (k : Kernel) (o : LimitObject) (n : ℕ) (x : Kernel) → Sound k → x .tasks ≡ Scheduler.block k .tasks → current x ≡ current k → x .«tick_count» ≡ k .«tick_count» → isLimit o ≡ true → Keeps (current k) (min (k .«tick_count» + n) lastTick) (limited o n x) × (slot (limited o n x) (current k) .«limit_object» ≡ o)
 current-keeps k o n x w tasks now up l =
     let size : current k < length (k .tasks) = omega (arith, w .owned .slots, w .is .current-slot) in
     let was : slot x (current k) ≡ entered Blocked (slot k (current k)) = ap (λ (ts : List TaskControl). getD ts (current k) blankSlot) tasks ∙ getD-set-same (k .tasks) (current k) _ blankSlot size in
     let here : slot (limited o n x) (current k) ≡ withLimit o (min (x .«tick_count» + n) lastTick) (slot x (current k)) = rw now (getD-set-same (x .tasks) (current k) _ blankSlot (omega (arith, size, ap length tasks, length-set (k .tasks) (current k) (entered Blocked (slot k (current k)))))) in
-    record {
-      limited = record { inside = w .is .current-slot; present = rw (here, was) (w .is .running); limit = rw here l };
-      until = rw (here, up);
-    }
+    (record { limited = record { present = rw (here, was) (w .is .running); limit = rw here l }; until = rw (here, up) }, rw here)
 
-ends : (k : Kernel) → Reached k → (n : ℕ) (c : Call) → WithLimit n c → step k c .value ≡ YesNo false → EndsWithin (step k c .kernel) (current k) n (min (k .«tick_count» + n) lastTick)
+-- a call that tells whether it need not block, and where it must begins a limit on the kernel x
+blocks-within : (k : Kernel) → Reached k → (n : ℕ) (o : LimitObject) (c : Call) (free : Bool) (got x : Kernel) → number k c ≡ 0 → free ≡ false → effect k c ≡ (if free then got else limited o n x) → 0 < n → x .tasks ≡ Scheduler.block k .tasks → current x ≡ current k → x .«tick_count» ≡ k .«tick_count» → isLimit o ≡ true
+    → EndsWithin (step k c .kernel) (current k) n o (min (k .«tick_count» + n) lastTick)
+blocks-within k r n o c free got x e shut is p tasks now up l =
+    of-step (λ (a : Answer). Reached (a .kernel) → EndsWithin (a .kernel) (current k) n o (min (k .«tick_count» + n) lastTick)) k c e
+    (subst (λ (y : Kernel). Reached y → EndsWithin y (current k) n o (min (k .«tick_count» + n) lastTick)) (sym is)
+      (either (λ (y : Kernel). Reached y → EndsWithin y (current k) n o (min (k .«tick_count» + n) lastTick)) free (λ f. absurd (false≢true (sym shut ∙ f)))
+        (λ _ q. let b = current-keeps k o n x (queued r .sound) tasks now up l in ends-within k (limited o n x) (current k) n o q up p (b .0) (b .1))))
+    (called c r)
+
+ends : (k : Kernel) → Reached k → (n : ℕ) (o : LimitObject) (c : Call) → WithLimit n o c → step k c .value ≡ YesNo false → EndsWithin (step k c .kernel) (current k) n o (min (k .«tick_count» + n) lastTick)
 unfolding value effect Semaphore.acquireWithin Event.eventWaitWithin
-ends k r n c (acquiring s m) v =
+ends k r n o c (acquiring s) v =
     let e = answers k c false v in
-    let blocked : hasPermit s k ≡ false = told k c false (hasPermit s k) refl v in
-    of-step (λ (a : Answer). Reached (a .kernel) → EndsWithin (a .kernel) (current k) n (min (k .«tick_count» + n) lastTick)) k c e
-    (either (λ (x : Kernel). Reached x → EndsWithin x (current k) n (min (k .«tick_count» + n) lastTick)) (hasPermit s k) (λ f. absurd (false≢true (sym blocked ∙ f)))
-    (λ _ q. ends-within k _ (current k) n q refl (omega (arith, eqb-false m 0 (accepted-at k c 2 refl e))) (current-keeps k (AtSemaphore s) n (Semaphore.blockedOnSemaphore s k) (queued r .sound) refl refl refl refl)))
-    (called c r)
-ends k r n c (waiting s m) v =
+    blocks-within k r n o c (hasPermit s k) _ (Semaphore.blockedOnSemaphore s k) e (told k c false (hasPermit s k) refl v) refl (omega (arith, eqb-false n 0 (accepted-at k c 2 refl e))) refl refl refl refl
+ends k r n o c (waiting s) v =
     let e = answers k c false v in
-    let blocked : event k s .signaled ≡ false = told k c false (event k s .signaled) refl v in
-    of-step (λ (a : Answer). Reached (a .kernel) → EndsWithin (a .kernel) (current k) n (min (k .«tick_count» + n) lastTick)) k c e
-    (either (λ (x : Kernel). Reached x → EndsWithin x (current k) n (min (k .«tick_count» + n) lastTick)) (event k s .signaled) (λ f. absurd (false≢true (sym blocked ∙ f)))
-    (λ _ q. ends-within k _ (current k) n q refl (omega (arith, eqb-false m 0 (accepted-at k c 2 refl e))) (current-keeps k (AtEvent s) n (Event.blockedOnEvent s k) (queued r .sound) refl refl refl refl)))
-    (called c r)
-
-ticked-ahead : (k : Kernel) → Reached k → step k tick .number ≡ 0 → (i : ℕ) → Limited (step k tick .kernel) i → step k tick .kernel .«tick_count» < slot (step k tick .kernel) i .«limit_tick»
-unfolding outcome outcomeOf effect value if_then_else_
-ticked-ahead k r z i l =
-    let e = accepts k tick z in
-    let was = of-step (λ (a : Answer). outcome (record { call = tick; answer = a }) ≡ ticked (eqb (valueNumber (value k tick)) 1)) k tick e refl in
-    fact (record { call = tick; answer = step k tick }) r refl .ahead _ was i (l .inside) (l .present) (l .limit)
+    blocks-within k r n o c (event k s .signaled) _ (Event.blockedOnEvent s k) e (told k c false (event k s .signaled) refl v) refl (omega (arith, eqb-false n 0 (accepted-at k c 2 refl e))) refl refl refl refl
 
 pub limit-guarantee : LimitGuarantee
-limit-guarantee = record { kept = kept; passed = ticked-ahead; ends = ends }
+limit-guarantee = record { kept = kept; at-tick = at-tick; ends = ends }

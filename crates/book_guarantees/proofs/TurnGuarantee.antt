@@ -27,8 +27,7 @@ use Rattle.kernel.proofs.Pick.{pick-lt}
 use Rattle.kernel.proofs.Changes.{Changes, none}
 use Rattle.kernel.proofs.MadeOf.{made-of}
 use Rattle.kernel.proofs.Reached.{init-kernel, reached}
-use Rattle.book_guarantees.specs.Lists.{Entry, after, Each, EachNext, Returned, end, Outcome, turn, tick, other, outcomeOf, outcome, AcceptedSwitch, turns, tickOf, ticksWhile, sum}
-use Rattle.book_guarantees.specs.Limits
+use Rattle.book_guarantees.specs.Lists.{Entry, after, Each, EachNext, Returned, end, Outcome, turn, tick, other, outcomeOf, outcome, AcceptedSwitch, turns, tickOf, ticksWhile, acceptedTick, sum}
 use Rattle.book_guarantees.specs.Turns.{Holds, Stays, Peer, Unchanging, Bounded, TurnGuarantee, PickedBy, TurnGuaranteeBy}
 use Rattle.book_guarantees.proofs.BestFirst.{clash}
 use Rattle.book_guarantees.proofs.Fairness.{IsTurn, answered, Step, Steps, At, each-at, fair}
@@ -67,7 +66,7 @@ module _ (rank : Kernel → ℕ → ℕ) where
     begun : (s : ℕ) → v ≡ turn s → (current k′ ≡ s) × (s < 16) × (k′ .started ≡ true)
     priority : (j : ℕ) → slot k j .occupied ≡ true → slot k′ j .occupied ≡ true → priorityOf k′ j ≡ priorityOf k j
     -- tick_count rises by the accepted ticks, and with such a tick every limit lies ahead
-    pub clock : k′ .«tick_count» ≡ k .«tick_count» + Limits.tickOf v
+    pub clock : k′ .«tick_count» ≡ k .«tick_count» + acceptedTick v
     pub ahead : (w : Bool) → v ≡ tick w → (j : ℕ) → j < 16 → LimitAhead (k′ .«tick_count») (slot k′ j)
 
   same-priority : {g : Kind} {k k′ : Kernel} → Changes g k k′ → (j : ℕ) → slot k j .occupied ≡ true → slot k′ j .occupied ≡ true → priorityOf k′ j ≡ priorityOf k j

@@ -2,17 +2,18 @@
 use Prim.Native.Nat.{ℕ, _+_, _-_, _^_, min, _≤_, _<_}
 use mathlib.Core.Path.{_≡_}
 use mathlib.Core.Bool.{true, false}
-use mathlib.Core.List.{List, [], _∷_}
+use mathlib.Core.List.{List}
 use mathlib.Core.Logic.{_⊎_}
+use Rattle.kernel.specs.declared.control.LimitObject.{LimitObject}
 use Rattle.kernel.specs.declared.control.LimitObject.the-variants.{AtSemaphore, AtEvent}
 use Rattle.kernel.specs.declared.control.TaskState.the-variants.{Blocked}
 use Rattle.kernel.specs.declared.scheduler.Kernel.{Kernel}
 use Rattle.kernel.specs.declared.scheduler.Value.the-variants.{YesNo}
-use Rattle.kernel.specs.Control.{hasLimit}
+use Rattle.kernel.specs.Control.{hasLimit, expired}
 use Rattle.kernel.specs.WaitQueue.{contains}
 use Rattle.kernel.specs.Kernel.{slot, current, semaphore, event}
 use Rattle.kernel.specs.Calls.{Call, tick, acquire-within, event-wait-within, step, Reached}
-use Rattle.book_guarantees.specs.Lists.{Entry, after, Each, Returned, end, Outcome, turn, tick as ticked, other, outcome}
+use Rattle.book_guarantees.specs.Lists.{Entry, after, Each, Returned, end, acceptedTicks}
 
 -- where no tick comes any more
 abbrev pub lastTick : ℕ
@@ -20,7 +21,6 @@ lastTick = 2 ^ 64 - 1
 
 -- the task in slot i is present and has a limit
 pub record Limited (k : Kernel) (i : ℕ) : Type 0 where
-  pub inside : i < 16
   pub present : slot k i .occupied ≡ true
   pub limit : hasLimit (slot k i) ≡ true
 
@@ -33,41 +33,39 @@ pub record Waiting (k : Kernel) (i : ℕ) : Type 0 where
   -- the limit lies after tick_count; where no tick comes any more it may be the last one itself
   pub ahead : (k .«tick_count» < slot k i .«limit_tick») ⊎ ((k .«tick_count» ≡ lastTick) × (slot k i .«limit_tick» ≡ lastTick))
 
+-- what an accepted tick does to the limits of k; k′ is the kernel after it
+pub record AtTick (k k′ : Kernel) : Type 0 where
+  -- it ends exactly those that the raised tick_count reaches: that task is Ready and marked; any other task with a limit stays as it is
+  pub due : (i : ℕ) → Limited k i → slot k i .«limit_tick» ≤ k .«tick_count» + 1 → slot k′ i ≡ expired (slot k i)
+  pub not-due : (i : ℕ) → Limited k i → k .«tick_count» + 1 < slot k i .«limit_tick» → slot k′ i ≡ slot k i
+  -- every limit lies after tick_count then, the last tick included
+  pub ahead : (i : ℕ) → Limited k′ i → k′ .«tick_count» < slot k′ i .«limit_tick»
+
 -- ---- lists after the call
 
--- how many ticks of a list were accepted
-abbrev pub tickOf : Outcome → ℕ
-tickOf (turn s) = 0
-tickOf (ticked w) = 1
-tickOf other = 0
-
-abbrev pub ticks : List Entry → ℕ
-ticks [] = 0
-ticks (e ∷ es) = tickOf (outcome e) + ticks es
-
--- a call with a limit of so many ticks
-pub data WithLimit : ℕ → Call → Type 0 where
-  acquiring : (s n : ℕ) → WithLimit n (acquire-within s n)
-  waiting : (e n : ℕ) → WithLimit n (event-wait-within e n)
+-- a call with a limit of n ticks, at that object
+pub data WithLimit (n : ℕ) : LimitObject → Call → Type 0 where
+  acquiring : (s : ℕ) → WithLimit n (AtSemaphore s) (acquire-within s n)
+  waiting : (e : ℕ) → WithLimit n (AtEvent e) (event-wait-within e n)
 
 -- slot i has that limit: it ends at tick t
 pub record Keeps (i t : ℕ) (k : Kernel) : Type 0 where
   pub limited : Limited k i
   pub until : slot k i .«limit_tick» ≡ t
 
--- k′ is the kernel that the call returned, i the slot that was current, n its limit and t the tick at which that ends
-pub record EndsWithin (k′ : Kernel) (i n t : ℕ) : Type 0 where
+-- k′ is the kernel that the call returned, i the slot that was current, n its limit, o its object and t the tick at which the limit ends
+pub record EndsWithin (k′ : Kernel) (i n : ℕ) (o : LimitObject) (t : ℕ) : Type 0 where
   -- the limit begins
   pub begins : Keeps i t k′
+  pub object : slot k′ i .«limit_object» ≡ o
   -- as long as it is kept, fewer than n ticks were accepted: with the n-th at the latest it has ended
-  pub fewer : (es : List Entry) → Returned k′ es → Each (λ e. Keeps i t (after e)) es → ticks es < n
-  -- so no list with n accepted ticks leaves the task with that limit; but at the last tick it may have begun another, which ends there too
-  pub over : (es : List Entry) → Returned k′ es → n ≤ ticks es → Keeps i t (end k′ es) → end k′ es .«tick_count» ≡ lastTick
+  pub fewer : (es : List Entry) → Returned k′ es → Each (λ e. Keeps i t (after e)) es → acceptedTicks es < n
+  -- so no list with n accepted ticks leaves the task with that limit; but at the last tick another may have begun in that slot, held at the same tick, which no tick ends
+  pub over : t < lastTick → (es : List Entry) → Returned k′ es → n ≤ acceptedTicks es → Keeps i t (end k′ es) → ⊥
 
 pub record LimitGuarantee : Type 0 where
   -- "a task with a limit is Blocked and stands in that object's queue, and the limit lies after tick_count"
   pub kept : (k : Kernel) → Reached k → (i : ℕ) → Limited k i → Waiting k i
-  -- after an accepted tick every limit lies after tick_count, the last tick included
-  pub passed : (k : Kernel) → Reached k → step k tick .number ≡ 0 → (i : ℕ) → Limited (step k tick .kernel) i → step k tick .kernel .«tick_count» < slot (step k tick .kernel) i .«limit_tick»
+  pub at-tick : (k : Kernel) → Reached k → step k tick .number ≡ 0 → AtTick k (step k tick .kernel)
   -- "a limited wait ends within its limit of ticks": where the call answers no, it blocked
-  pub ends : (k : Kernel) → Reached k → (n : ℕ) (c : Call) → WithLimit n c → step k c .value ≡ YesNo false → EndsWithin (step k c .kernel) (current k) n (min (k .«tick_count» + n) lastTick)
+  pub ends : (k : Kernel) → Reached k → (n : ℕ) (o : LimitObject) (c : Call) → WithLimit n o c → step k c .value ≡ YesNo false → EndsWithin (step k c .kernel) (current k) n o (min (k .«tick_count» + n) lastTick)

@@ -90,6 +90,17 @@ abbrev pub ticksWhile : ℕ → Kernel → List Entry → ℕ
 ticksWhile j k [] = 0
 ticksWhile j k (e ∷ es) = tickOf j k (outcome e) + ticksWhile j (after e) es
 
+-- 1 for an accepted tick, otherwise 0
+abbrev pub acceptedTick : Outcome → ℕ
+acceptedTick (turn s) = 0
+acceptedTick (tick w) = 1
+acceptedTick other = 0
+
+-- how many ticks of the list were accepted
+abbrev pub acceptedTicks : List Entry → ℕ
+acceptedTicks [] = 0
+acceptedTicks (e ∷ es) = acceptedTick (outcome e) + acceptedTicks es
+
 -- f of the numbers below n, added up
 unfoldable pub sum : (ℕ → ℕ) → ℕ → ℕ
 sum f zero = 0

@@ -86,7 +86,7 @@ kind (event-wait-within e ticks) = plain
 kind (signal e) = plain
 kind (list arena records) = plain
 
--- ---- the number: 0, or that of the first check that refuses the call, in 01's order
+-- ---- the number: 0, or that of the first check that refuses the call, in 01's order, as 02 continues it
 
 -- a check: the number that it refuses with, and where
 infix 5 _when_
@@ -178,6 +178,7 @@ checks k (acquire s) = noObject s ∷ notStarted k ∷ (12 when not (hasPermit s
 checks k (acquire-within s ticks) =
     noObject s
     ∷ notStarted k
+    -- "A limit of 0 gives 7, after 2"
     ∷ (7 when eqb ticks 0)
     ∷ (12 when not (hasPermit s k) && noRoom k (semaphore k s .waiters))
     ∷ []
@@ -187,6 +188,7 @@ checks k (event-wait e) = noObject e ∷ notStarted k ∷ (12 when not (event k 
 checks k (event-wait-within e ticks) =
     noObject e
     ∷ notStarted k
+    -- "A limit of 0 gives 7, after 2"
     ∷ (7 when eqb ticks 0)
     ∷ (12 when not (event k e .signaled) && noRoom k (event k e .waiters))
     ∷ []

@@ -58,6 +58,7 @@ holdsTask s t = t .occupied && inState s t
 -- ---- the limit of a wait (02, W-202)
 
 -- A limit is kept as the object that is waited for, semaphore or event with its number, and the tick at which it ends. Without one nothing is kept: `NoLimit`, and tick 0.
+-- Beside `NoLimit` the tick is not read, and whole does not judge it; what enters a state makes it 0.
 abbrev pub isLimit : LimitObject → Bool
 isLimit NoLimit = false
 isLimit (AtSemaphore s) = true
@@ -66,15 +67,15 @@ isLimit (AtEvent e) = true
 abbrev pub hasLimit : TaskControl → Bool
 hasLimit t = isLimit (t .«limit_object»)
 
--- a limit ends, and the mark says whether by its own tick; without one the mark stays
+-- a limit ends, and `limit_passed` says whether by its own tick; without one it stays as it is
 abbrev pub limitEnded : Bool → TaskControl → TaskControl
 limitEnded own t = withLimitPassed (if hasLimit t then own else t .«limit_passed») (withLimit NoLimit 0 t)
 
--- Every state is entered so, and what enters a state ends a limit: a wake, status, sleep, exit, blocking once more, being picked.
+-- Every state is entered so, but Ready by a limit's own tick (`expired`): "Any other wake ends the limit, and so does a status, sleep or exit of that task or its blocking once more, or a start or switch that picks it".
 abbrev pub entered : TaskState → TaskControl → TaskControl
 entered s t = limitEnded false (withState s t)
 
--- the limit is over by its own tick
+-- Ready, the limit ended by its own tick
 abbrev pub expired : TaskControl → TaskControl
 expired t = limitEnded true (withState Ready t)
 

@@ -91,7 +91,7 @@ queuesWhole k o = leb (mutex k o .waiters .len) 8 && leb (semaphore k o .waiters
 abbrev pub chargeWhole : Kernel → ℕ → Bool
 chargeWhole k i = leb (charge k i) (k .«tick_count»)
 
--- a limit in a Blocked task only, with an object number below 4
+-- of an occupied slot: a limit in a Blocked task only, with an object number below 4
 abbrev pub limitWhole : Kernel → ℕ → Bool
 limitWhole k i = not (slot k i .occupied && hasLimit (slot k i)) || (inState Blocked (slot k i) && objectFits (slot k i .«limit_object»))
 

@@ -142,15 +142,15 @@ add p r k = withTaskCount (k .«task_count» + 1) (withNextId (k .«next_id» + 
 unfoldable pub isDue : ℕ → TaskControl → Bool
 isDue now t = holdsTask Sleeping t && leb (t .«wake_tick») now
 
--- a limit that ends at now or before
+-- a limit at or before now; in a whole kernel its task is Blocked
 unfoldable pub isLimitDue : ℕ → TaskControl → Bool
 isLimitDue now t = t .occupied && hasLimit t && leb (t .«limit_tick») now
 
--- what a tick makes of a task
+-- what the walk of a tick makes of a task
 unfoldable pub woken : ℕ → TaskControl → TaskControl
 woken now t = if isLimitDue now t then expired t else if isDue now t then entered Ready t else t
 
--- id a out of that object's queue, where it waits first
+-- id a out of that object's queue wherever it stands, at its first place; a queue without it stays
 abbrev pub unqueued : LimitObject → TaskId → Kernel → Kernel
 unqueued NoLimit a k = k
 unqueued (AtSemaphore s) a k = withSemaphore s (record { count = semaphore k s .count; waiters = removed (semaphore k s .waiters) a }) k
@@ -169,13 +169,13 @@ walked now (suc n) k = visited now n (walked now n k)
 abbrev pub spent : TaskControl → TaskControl
 spent t = if eqb (t .«remaining_slice» - 1) 0 then withRemaining (t .«time_slice») t else withRemaining (t .«remaining_slice» - 1) t
 
--- then tick_count up, and the charge of current up if started
+-- tick_count up, and the charge of current up if started
 unfoldable pub clocked : Kernel → Kernel
 clocked k =
     let charges = if k .started then set (k .charges) (current k) (charge k (current k) + 1) else k .charges in
     withTickCount (k .«tick_count» + 1) (withCharges charges k)
 
--- the raised tick_count decides who is woken
+-- 01 raises tick_count first; the walk goes by the raised one and alters only tasks and queues, so the order does not show
 unfoldable pub advanced : Kernel → Kernel
 advanced k = clocked (walked (k .«tick_count» + 1) 16 k)
 

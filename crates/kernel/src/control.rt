@@ -33,7 +33,7 @@ pub struct StackRegion {
     pub size: u32,
 }
 
-// The object of a wait that has a limit, with its number.
+// The object of a wait that has a limit, with its number, or none.
 pub enum LimitObject {
     NoLimit,
     AtSemaphore(u8),
@@ -46,13 +46,14 @@ pub struct TaskControl {
     pub occupied: bool,
     pub state: TaskState,
     pub priority: Priority,
-    // Whether the last limit to end was ended by its own tick.
+    // Whether the last limit to end was ended by its own tick; no if there was none yet.
     pub limit_passed: bool,
     pub limit_object: LimitObject,
     pub stack: StackRegion,
     pub id: TaskId,
     pub time_slice: u32,
     pub wake_tick: u64,
+    // The tick at which the limit ends; 0 without one.
     pub limit_tick: u64,
     pub remaining_slice: u32,
     pub owned_mutex_count: u32,
@@ -214,7 +215,7 @@ impl TaskControl {
         self
     }
 
-    // The mark once a limit has ended, by its own tick or not; without one it stays.
+    // `limit_passed` once a limit has ended, by its own tick or not; without one it stays.
     fn passed(self, own: bool) -> bool
         ensures { λ r. ⌜ r ≡ (if hasLimit self then own else self .«limit_passed») ⌝ }
     {
