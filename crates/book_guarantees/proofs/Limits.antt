@@ -299,8 +299,8 @@ blocks-within : (k : Kernel) → Reached k → (n : ℕ) (o : LimitObject) (c : 
 blocks-within k r n o c free got x e shut is p tasks now up l =
     of-step (λ (a : Answer). Reached (a .kernel) → EndsWithin (a .kernel) (current k) n o (min (k .«tick_count» + n) lastTick)) k c e
     (subst (λ (y : Kernel). Reached y → EndsWithin y (current k) n o (min (k .«tick_count» + n) lastTick)) (sym is)
-      (either (λ (y : Kernel). Reached y → EndsWithin y (current k) n o (min (k .«tick_count» + n) lastTick)) free (λ f. absurd (false≢true (sym shut ∙ f)))
-        (λ _ q. let b = current-keeps k o n x (queued r .sound) tasks now up l in ends-within k (limited o n x) (current k) n o q up p (b .0) (b .1))))
+    (either (λ (y : Kernel). Reached y → EndsWithin y (current k) n o (min (k .«tick_count» + n) lastTick)) free (λ f. absurd (false≢true (sym shut ∙ f)))
+    (λ _ q. let b = current-keeps k o n x (queued r .sound) tasks now up l in ends-within k (limited o n x) (current k) n o q up p (b .0) (b .1))))
     (called c r)
 
 ends : (k : Kernel) → Reached k → (n : ℕ) (o : LimitObject) (c : Call) → WithLimit n o c → step k c .value ≡ YesNo false → EndsWithin (step k c .kernel) (current k) n o (min (k .«tick_count» + n) lastTick)
