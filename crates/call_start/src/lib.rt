@@ -5,8 +5,9 @@ use kernel::scheduler::Kernel;
 use kernel::scheduler::Value;
 use leaf_table::internal::answer;
 ghost use mathlib.Core.Path.{_≡_};
+ghost use Prim.Native.Nat.{_<_};
 ghost use Rattle.kernel.specs.Calls.{start, number, value, effect, accepted, step};
-ghost use Rattle.kernel.specs.Kernel.{whole};
+ghost use Rattle.kernel.specs.Kernel.{current, whole};
 
 pub mod internal;
 
@@ -19,6 +20,7 @@ fn start_number(k: Kernel, is_whole: bool) -> u8
 }
 
 fn started(mut k: Kernel) -> Answer
+    requires { ⌜ current k < 16 ⌝ }
     ensures { λ r. ⌜ r ≡ accepted (value k start) (effect k start) ⌝ }
 {
     let slot = pick::internal::next_task(k);

@@ -1,5 +1,5 @@
 -- A search of the keys is the pick: the slots of the smallest key below 256 are the best ones, and with no such key none is Ready.
-use Prim.Native.Nat.{ℕ, _+_, _%_, _≤_, _<_, zero-le}
+use Prim.Native.Nat.{ℕ, _+_, _≤_, _<_, zero-le}
 use native.Mathlib.Omega.{arith}
 use mathlib.Core.Path.{_≡_, refl, sym, _∙_}
 use mathlib.Core.Bool.{Bool, true, false, _&&_, not}
@@ -85,10 +85,7 @@ module _ (keys : List ℕ) (best : ℕ) (least : IsLeast keys 16 best) where
       let e : keyDistance keys c best ≡ lowestBelow (λ n. isBest ready keyAt (slotAfter c n)) 16 = lowest-same _ _ 16 (λ n g. best-is h (slotAfter c n) (around-lt c n)) in
       rw e
 
--- ---- the search from current + 1, whose code takes the remainder of current first
-
-place-is : (c n : ℕ) → (c % 16 + 1 + n) % 16 ≡ slotAfter c n
-place-is c n = omega arith
+-- ---- the search from current + 1
 
 module _ (keys : List ℕ) (c best : ℕ) where
   -- nothing among the first n
@@ -99,15 +96,15 @@ module _ (keys : List ℕ) (c best : ℕ) where
   unfolding Searched
   from-start = search-start _ 16
 
-  pub from-next : (n : ℕ) → Searched n → n < 16 → (getD keys ((c % 16 + 1 + n) % 16) 0 ≡ best → ⊥) → Searched (n + 1)
+  pub from-next : (n at : ℕ) → Searched n → n < 16 → at ≡ slotAfter c n → (getD keys at 0 ≡ best → ⊥) → Searched (n + 1)
   unfolding Searched
-  from-next n u h e = search-more _ 16 n u h (rw (← place-is c n) (ne-eqb _ _ e))
+  from-next n at u h s e = search-more _ 16 n u h (rw (← s) (ne-eqb _ _ e))
 
-  pub from-found : (n : ℕ) → Searched n → n < 16 → getD keys ((c % 16 + 1 + n) % 16) 0 ≡ best → (c % 16 + 1 + n) % 16 ≡ firstFrom keys c best
+  pub from-found : (n at : ℕ) → Searched n → n < 16 → at ≡ slotAfter c n → getD keys at 0 ≡ best → at ≡ firstFrom keys c best
   unfolding firstFrom if_then_else_ Searched
-  from-found n u h e =
-      let d : n ≡ keyDistance keys c best = search-found _ 16 n u h (rw (← place-is c n) (eq-eqb _ _ e)) in
-      rw (← d, lt-ltb n 16 h) (place-is c n)
+  from-found n at u h s e =
+      let d : n ≡ keyDistance keys c best = search-found _ 16 n u h (rw (← s) (eq-eqb _ _ e)) in
+      rw (← d, lt-ltb n 16 h) s
 
   pub from-none : (n : ℕ) → Searched n → 16 ≤ n → 0 ≡ firstFrom keys c best
   unfolding firstFrom if_then_else_ Searched

@@ -1,4 +1,4 @@
-// The pick over the task table: `next_task` of sched/scheduler.rs. No call.
+// The pick over the task table: `next_task` of sched/scheduler.rs. No call: it asks of its caller that current is a slot.
 use crate::NOT_READY;
 use crate::key;
 use crate::pick_key;
@@ -10,6 +10,7 @@ ghost use Prim.Native.Nat.{ℕ, _<_};
 ghost use lib.ListN.{getD};
 ghost use Rattle.kernel.specs.declared.control.TaskState.the-variants.{Ready};
 ghost use Rattle.kernel.specs.Control.{holdsTask};
+ghost use Rattle.kernel.specs.Kernel.{current};
 ghost use Rattle.kernel.specs.Scheduler.{isReady, priorityOf, nextTask};
 ghost use Rattle.pick.specs.Keys.{IsKey};
 
@@ -32,6 +33,7 @@ fn task_keys(k: Kernel) -> [u16; Kernel::MAX_TASKS]
 
 // The slot of the smallest priority among the Ready ones, the first of them from current + 1 cyclically; 0 where none is Ready.
 pub fn next_task(k: Kernel) -> SlotIndex
+    requires { ⌜ current k < 16 ⌝ }
     ensures { λ r. ⌜ (r .0 ≡ nextTask k) × (r .0 < 16) ⌝ }
 {
     let keys = task_keys(k);

@@ -6,7 +6,7 @@ ghost use lib.Dec.{eqb, ltb};
 ghost use lib.ListN.{length, getD};
 ghost use Rattle.base.specs.Choice.{if_then_else_};
 ghost use Rattle.base.specs.Below.{anyBelow};
-ghost use Rattle.kernel.specs.Scheduler.{pick};
+ghost use Rattle.kernel.specs.Scheduler.{slotAfter, pick};
 ghost use Rattle.kernel.specs.Calls.{pickBytes};
 ghost use Rattle.pick.specs.Keys.{IsKey, IsLeast, firstFrom};
 
@@ -43,13 +43,26 @@ fn least(keys: [u16; Kernel::MAX_TASKS]) -> u16
     best
 }
 
+// The slot n places after current + 1, slot 0 following slot 15: by comparison and subtraction, since the pick runs inside the switch interrupt.
+fn slot_after(current: usize, n: usize) -> usize
+    requires { ⌜ (current < 16) × (n < 16) ⌝ }
+    ensures { λ r. ⌜ r ≡ slotAfter current n ⌝ }
+{
+    let place = current + 1 + n;
+    if place < Kernel::MAX_TASKS {
+        place
+    } else {
+        place - Kernel::MAX_TASKS
+    }
+}
+
 // The first slot from current + 1 cyclically that has that key; 0 where none has.
 fn first_from(keys: [u16; Kernel::MAX_TASKS], current: usize, best: u16) -> usize
+    requires { ⌜ current < 16 ⌝ }
     ensures { λ r. ⌜ r ≡ firstFrom keys current best ⌝ }
 {
-    let from = current % Kernel::MAX_TASKS + 1;
     for n in 0..Kernel::MAX_TASKS {
-        let at = (from + n) % Kernel::MAX_TASKS;
+        let at = slot_after(current, n);
         if keys[at] == best {
             return at;
         }
@@ -58,6 +71,7 @@ fn first_from(keys: [u16; Kernel::MAX_TASKS], current: usize, best: u16) -> usiz
 }
 
 fn pick_key(keys: [u16; Kernel::MAX_TASKS], current: usize) -> usize
+    requires { ⌜ current < 16 ⌝ }
     ensures { λ r. ⌜ r ≡ pick (λ i. ltb (getD keys i 0) 256) (λ i. getD keys i 0) current ⌝ }
 {
     let best = least(keys);

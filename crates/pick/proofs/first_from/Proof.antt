@@ -6,10 +6,16 @@ use Rattle.pick.proofs.first_from.Statement.{statement}
 use Rattle.pick.proofs.first_from.Tie as tie
 
 abbrev Inv-loop : tie.InvT-loop
-Inv-loop current best keys from n₀ n = Searched keys current best n
+Inv-loop current best keys n₀ n = Searched keys current best n
 
 abbrev μ-loop : tie.MeasureT-loop
-μ-loop current best keys from n₀ n = 16 - n
+μ-loop current best keys n₀ n = 16 - n
+
+returns : tie.Need-returns Inv-loop μ-loop
+returns c = from-found _ _ _ _ _ (c .before .before .before .loop .inv) (c .before .before .loop-test .taken) (c .before .slot-after .ensures) (c .if1 .taken)
+
+loop-again : tie.Need-loop-again Inv-loop μ-loop
+loop-again c = from-next _ _ _ _ _ (c .before .before .before .loop .inv) (c .before .before .loop-test .taken) (c .before .slot-after .ensures) (c .if1 .left)
 
 pub first-from-spec : {M : Type 1} → statement M
 first-from-spec =
@@ -17,13 +23,12 @@ first-from-spec =
     (tie.spec
     Inv-loop
     μ-loop
-    (λ c. search needs)
     (λ c. from-start _ _ _)
+    (λ c κs. search needs)
     (λ c. search needs)
     (λ c. search needs)
+    returns
     (λ c. search needs)
-    (λ c. from-found _ _ _ _ (c .before .before .loop .inv) (c .before .loop-test .taken) (c .if1 .taken))
     (λ c. search needs)
-    (λ c. search needs)
-    (λ c. from-next _ _ _ _ (c .before .before .loop .inv) (c .before .loop-test .taken) (c .if1 .left))
+    loop-again
     (λ c. from-none _ _ _ _ (c .before .loop .inv) (c .loop-test .left)))
