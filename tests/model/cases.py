@@ -131,6 +131,13 @@ turns("pick-among-equals", "Slots 3 and 4 Ready at 128, current 3: 4 (01, Exam c
 turns("pick-past-the-last-slot", "Slots 3 and 15 at 7, current 15: 3 (01, Exam cases)",
       *added(200, 200, 7, *[200] * 11, 7, size=16), (START, ok(3, 3)), (switch(2, 16), ok(15, 15)), (switch(14, 16), ok(3, 3)))
 
+turns("pick-all-the-way-round", "All sixteen at 255: from slot 1 on to slot 15, then slot 0 and slot 1 again (02, W-203)",
+      *added(*[255] * 15, size=16), (START, ok(1, 1)), *[(switch(at - 1, 16), ok(at + 1, at + 1)) for at in range(1, 15)],
+      (switch(14, 16), ok(0, 0)), (IDLE, ok(1, 1)))
+
+turns("pick-oneself-last", "Slot 15 alone at 7 is looked at last and picked again; Blocked, from there slot 1, past idle (02, W-203)",
+      *added(*[200] * 14, 7, size=16), (START, ok(15, 15)), (switch(14, 16), ok(15, 15)), (BLOCK, ok(0, 15)), (switch(14, 16), ok(1, 1)))
+
 turns("pick-by-priority", "Slot 2 at 9, slot 5 at 8, current 1: 5 (01, Exam cases)",
       (add(0, 200), ok(1, 0)), (START, ok(1, 1)), (add(1, 9), ok(2, 1)), (add(2, 200), ok(3, 1)), (add(3, 200), ok(4, 1)),
       (add(4, 8), ok(5, 1)), (switch(0), ok(5, 5)))

@@ -1,4 +1,5 @@
-/* The exported pick, linked as the course's simulator links it: the exam's cases, every refusal, and random tables against a plain search. */
+/* The exported pick, linked as the course's simulator links it: the exam's cases, every refusal, the way round from every slot, and random
+ * tables against a plain search. */
 #include <stdio.h>
 #include <string.h>
 #include "tibsulan.h"
@@ -79,6 +80,21 @@ static void refusals(void) {
     }
 }
 
+/* From every current: to every slot that is Ready alone, and to the next one where all are Ready alike. */
+static void way_round(void) {
+    for (unsigned current = 0; current < SLOTS; current++) {
+        uint8_t s[SLOTS], p[SLOTS] = {0};
+        memset(s, EMPTY, sizeof s);
+        for (unsigned slot = 0; slot < SLOTS; slot++) {
+            s[slot] = 0;
+            expect("Ready alone", table_pick(s, p, current), slot);
+            s[slot] = EMPTY;
+        }
+        memset(s, 0, sizeof s);
+        expect("all alike", table_pick(s, p, current), current == 15 ? 0 : current + 1);
+    }
+}
+
 static void random_tables(void) {
     uint32_t seed = 2463534242u;
     unsigned picked[SLOTS] = {0};
@@ -102,8 +118,9 @@ static void random_tables(void) {
 int main(void) {
     exam_cases();
     refusals();
+    way_round();
     random_tables();
     if (failed == 0)
-        printf("pick: exam cases, refusals and %d random tables agree\n", TABLES);
+        printf("pick: exam cases, refusals, the way round and %d random tables agree\n", TABLES);
     return failed != 0;
 }
