@@ -62,7 +62,8 @@ fn switch_number(k: Kernel, is_whole: bool, sp: u32, arena: &[u32]) -> u8
     if !k.started {
         return 2;
     }
-    let t = leaf_table::internal::current_task(k);
+    let c = k.current.0;
+    let t = k.tasks[c];
     let stack = t.stack;
     switch_late_number(stack, sp, arena)
 }

@@ -9,8 +9,8 @@ use borrow.Author.Needs.{needs}
 use Rattle.call_switch.proofs.switch_number.Statement.{statement}
 use Rattle.call_switch.proofs.switch_number.Tie as tie
 
-known : (c : tie.Else3) → Whole (c .before .before .before .before .before .before .args .k)
-known c = is-whole _ (sym (c .before .before .before .before .before .before .pre) ∙ not-false _ (c .before .before .before .before .if1 .left))
+known : (c : tie.Else3) → Whole (c .before .before .before .before .args .t1)
+known c = is-whole _ (sym (c .before .before .before .before .pre) ∙ not-false _ (c .before .before .if1 .left))
 
 returns : tie.Need-returns
 unfolding number
@@ -22,17 +22,17 @@ returns-2 c = left _ _ _ _ (search tests) (taken _ _ _ _ (rw (ne-eqb _ _ (c .if2
 
 returns-3 : tie.Need-returns-3
 unfolding number
-returns-3 c = left _ _ _ _ (search tests) (left _ _ _ _ (rw (eq-eqb _ _ (c .before .before .if2 .left))) (taken _ _ _ _ (search needs) refl))
+returns-3 c = left _ _ _ _ (search tests) (left _ _ _ _ (rw (eq-eqb _ _ (c .before .if2 .left))) (taken _ _ _ _ (search needs) refl))
 
-current-task-requires : tie.Need-current-task-requires
-current-task-requires c κs = known c .current-slot
+element-copy-out-t : tie.Need-element-copy-out-t
+element-copy-out-t c = known c .current-slot
 
 switch-late-number-requires : tie.Need-switch-late-number-requires
-switch-late-number-requires c κs = let w = known (c .before .before) in rw (c .before .current-task .ensures) (omega (arith, w .region (c .before .before .before .before .before .before .before .before .args .k .current .0) (w .current-slot) (w .running), c .before .before .before .before .if2 .left))
+switch-late-number-requires c κs = let w = known (c .before .before) in omega (arith, w .region (c .before .before .before .before .before .before .args .t1 .current .0) (w .current-slot) (w .running), c .before .before .before .if2 .left)
 
 returns-4 : tie.Need-returns-4
 unfolding number
-returns-4 c = left _ _ _ _ (search tests) (left _ _ _ _ (rw (eq-eqb _ _ (c .before .before .before .before .before .if2 .left))) (left _ _ _ _ (search needs) (rw (← c .before .before .current-task .ensures) (c .switch-late-number .ensures))))
+returns-4 c = left _ _ _ _ (search tests) (left _ _ _ _ (rw (eq-eqb _ _ (c .before .before .before .before .if2 .left))) (left _ _ _ _ (search needs) (c .switch-late-number .ensures)))
 
 pub switch-number-spec : {M : Type 1} → statement M
 switch-number-spec =
@@ -42,6 +42,7 @@ switch-number-spec =
     (λ c. search needs)
     returns-2
     returns-3
-    current-task-requires
+    (λ c. search (known c .current-slot, needs))
+    element-copy-out-t
     switch-late-number-requires
     returns-4)
