@@ -1,6 +1,7 @@
 #!/usr/bin/env python3
 """What stands beside the lists of the compared domain. The exported pick is held against `next_task`, and `ms_to_ticks`, as sleep
-shows it in the tables, against the published one. Each line of differences.txt is seen: what the Rust does there, and that
+shows it in the tables, against the published one. Milliseconds from ticks, which the Rust has not (W-204), are the largest number whose
+ticks, by the published `ms_to_ticks`, are at most those. Each line of differences.txt is seen: what the Rust does there, and that
 `tables` refuses with that number and changes nothing or, for W-201, does what the line says.
 
   side.py REFERENCE TABLES PICK LIST
@@ -93,6 +94,43 @@ def ticks(reference, program, path):
     print(f"ms_to_ticks: {len(pairs)} times at {len(set(hz for hz, _ in pairs))} rates are the Rust's, {rest} of them rounded up")
 
 
+def milliseconds(reference, program):
+    some = lambda most: RNG.randrange(1, 1 << RNG.randrange(1, most + 1))
+    lines, asked = [], []
+    for hz in RATES + [some(32) for _ in range(86)]:
+        # Where a millisecond is full, where 23 begins, where 1000 times the ticks passes 2^64; few ticks, and any.
+        edges = [-(-ms * hz // 1000) + more for ms in (1, 2, 999, 1000, 1001, MOST - 1, MOST, some(32), some(32)) for more in (-1, 0)]
+        some_ticks = [0, 1, 2, (hz << 32) // 1000, 2**64 // 1000, *edges, *(some(64) for _ in range(10))]
+        lines.append(f"1f00{hz:08x}")
+        asked.append(None)
+        for t in some_ticks:
+            # These, or the nearest on both sides that are y * 2^k.
+            k = max(0, t.bit_length() - 32)
+            for y in (t >> k, min((t >> k) + 1, MOST)):
+                lines.append(f"18{k:02x}{y:08x}")
+                asked.append((hz, y << k))
+    given = "".join(line + "\n" for line in lines)
+    answers = [(int(text[:2], 16), int(text[2:10], 16)) for text in said(program, given=given)[::2]]
+    if len(answers) != len(asked):
+        fail("milliseconds: an answer for each line is wanted")
+    shown = [(*one, *answer) for one, answer in zip(asked, answers) if one]
+    # What the Rust makes of the answer and of one millisecond more. 2^32 milliseconds it cannot be asked for.
+    rust = said(reference, "ticks", given="".join(f"{hz} {more}\n" for hz, _, number, ms in shown
+                                                  for more in ((MOST, MOST) if number else (ms, min(ms + 1, MOST)))))
+    refused = last = 0
+    for at, (hz, t, number, ms) in enumerate(shown):
+        least, above = int(rust[2 * at]), int(rust[2 * at + 1])
+        if number == 0 and ms < MOST:
+            fine = least <= t < above
+        else:
+            fine = number in (0, 23) and least <= t and (number == 23) == (1000 * t // hz > MOST)
+            refused, last = refused + (number == 23), last + (number == 0)
+        if not fine:
+            fail(f"milliseconds: {t} ticks at {hz} hz: number {number}, {ms} ms, which are {least} ticks in the Rust, and one more {above}")
+    print(f"milliseconds: {len(shown)} asked at {len(set(hz for hz, *_ in shown))} rates: {len(shown) - refused - last} are the most whose "
+          f"ms_to_ticks in the Rust is at most the ticks; that {last} are 2^32 - 1 and {refused} are 23 is by the quotient")
+
+
 def differences(reference, program):
     with open(os.path.join(os.path.dirname(os.path.abspath(__file__)), "differences.txt")) as file:
         rows = [line.rstrip("\n").split(" | ") for line in file if not line.startswith("#")]
@@ -125,6 +163,7 @@ def main():
     reference, tables, pick, path = sys.argv[1:]
     picks(reference, pick)
     ticks(reference, tables, path)
+    milliseconds(reference, tables)
     differences(reference, tables)
 
 

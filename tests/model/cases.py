@@ -1,7 +1,8 @@
 """The cases of tests/cases: lists from fresh with answers worked out by hand from documents 01, 02, 04 and 05. Each is held against
 the model and, where a call is in the compared domain, against the Rust; of other lines the reference has to say 01's number. At
 a release or signal that drops a head which is not Blocked it has to say W-201, at a wait with a limit W-202; from there on the list is
-held to the model alone. So are the lists of `late`, since no list brings the Rust to that tick.
+held to the model alone. So are the lists of `late`, since no list brings the Rust to that tick. At milliseconds from ticks it has to
+say W-204; the call alters nothing, and the Rust plays the list without it.
 
   cases.py [DIR]    with DIR, also writes each list and what is printed for it: DIR/NAME.in and DIR/NAME.out for `turns`,
                     DIR/tables/NAME.in and DIR/tables/NAME.out for `tables`, DIR/late likewise
@@ -44,6 +45,7 @@ START, TICK, EXIT, BLOCK, REAP_ONE, CURRENT_ID = (line(op) for op in (0x02, 0x03
 WAIT, REAP, SLEEP, WAKE = ((lambda y, op=op: line(op, 0, y)) for op in (0x06, 0x07, 0x08, 0x09))
 LOCK, UNLOCK, TRY_LOCK, ACQUIRE, TRY_ACQUIRE, RELEASE, EVENT_WAIT, SIGNAL = ((lambda k, op=op: line(op, k)) for op in range(0x0a, 0x12))
 ACQUIRE_WITHIN, WAIT_WITHIN = ((lambda k, ticks, op=op: line(op, k, ticks)) for op in (0x15, 0x16))
+def milliseconds(y, k=0): return line(0x18, k, y)
 def status(k): return line(0x12, k)
 def result(id, k): return line(0x1d, k, id)
 def fresh(hz): return line(0x1f, 0, hz)
@@ -310,10 +312,12 @@ turns("no-call", "ff: any other length or byte, an unknown operation, an unused 
       (START, ok(0, 0)), ("0A0000000000", no(255, 0)), ("0a0000000000", ok(1, 0)))
 
 turns("no-call-of-tables", "The operations that `tables` alone has are ff (04, first paragraph)",
-      *[(call, no(255, 0)) for call in (records(1), CURRENT_ID, result(0, 1), word(0, 0), fresh(1000), ACQUIRE_WITHIN(0, 5), WAIT_WITHIN(0, 5))],
+      *[(call, no(255, 0)) for call in (records(1), CURRENT_ID, result(0, 1), word(0, 0), fresh(1000), ACQUIRE_WITHIN(0, 5), WAIT_WITHIN(0, 5),
+                                        milliseconds(0), milliseconds(5), milliseconds(NONE, 1))],
       *added(128), (START, ok(1, 1)),
       *[(call, no(255, 1)) for call in (records(2), CURRENT_ID, result(1, 255), word(2048, 0), fresh(1), *[
-          line(op, k, y) for op in (0x15, 0x16) for k, y in ((0, 5), (0, 0), (4, 0), (3, NONE))])],
+          line(op, k, y) for op in (0x15, 0x16) for k, y in ((0, 5), (0, 0), (4, 0), (3, NONE))],
+          milliseconds(0), milliseconds(5), milliseconds(1, 32), milliseconds(0, 33), milliseconds(NONE, 255))],
       (TICK, ok(0, 1)), (switch(0), ok(1, 1)))
 
 # The notation of `tables`
@@ -345,9 +349,9 @@ tables("table-of-objects", "Owners, a handoff, queues, counts, a waiter and a ch
 tables("no-call", "ff: operands out of range or unused, operations that are not there, lines that are none; each has its table (04, lines)",
        *[(call, no(255, 0), FRESH) for call in (
            "1b0000000001", "1b0100000001", "1c0100000000", "1c0000000001", "1e0200000000", "1eff00000000", "1e0000001000", "1e01ffffffff",
-           "1f0100000000", "1f0100000001", *[line(op) for op in range(0x17, 0x1b)], "170000000001",
-           "180000000001", "190100000000", "1a0100000000", "200000000000", "800000000000", "ff0000000000", "000000000000", "030000000001",
-           "", "1b01", "1c000000000", "1c00000000000", "1B0100000000", "1c0000000000 ")],
+           "1f0100000000", "1f0100000001", "182100000000", "182100000001", "18ff00000000", "18ffffffffff",
+           *[line(op) for op in (0x17, 0x19, 0x1a)], "170000000001", "190100000000", "1a0100000000", "200000000000", "800000000000",
+           "ff0000000000", "000000000000", "030000000001", "", "1b01", "1c000000000", "1c00000000000", "1B0100000000", "1c0000000000 ")],
        (START, ok(0, 0)), ("1e0200000000", no(255, 0), table(["0,0,1,255,0,1,1,0,-,0,8192,8192,0"], "0,1,0,1,1")),
        (records(1), ok(1, 0, "0,1,255,0,8192")))
 
@@ -642,6 +646,86 @@ tables("limit-is-in-ticks", "A limit is in ticks at any rate, and its tick has 6
         table([UNTOUCHED, task(1, BLOCKED, left=False, rest=4)], "1,1,1,2,2", semaphores=objects(o0="0,[1]"), events=objects(o3="0,[1]"),
               charges="0,1", limits={1: "e,3,4294967296,0"})))
 
+# W-204: milliseconds from ticks
+
+tables("milliseconds-of-ticks",
+       "At hz 1000 a tick is a millisecond; before the start and after it, and nothing is altered; 2^32 ticks are 23 (02, W-204; 05, 28)",
+       *[(milliseconds(y, k), ok(ms, 0), FRESH) for y, k, ms in (
+           (0, 0, 0), (1, 0, 1), (7, 1, 14), (5, 29, 2684354560), (NONE, 0, NONE), (1, 31, 2147483648), (0, 1, 0), (0, 32, 0))],
+       *[(milliseconds(y, k), no(23, 0), FRESH) for y, k in ((2147483648, 1), (1, 32), (NONE, 32))],
+       *added(128), (START, ok(1, 1)), (TICK, ok(0, 1)),
+       *[(milliseconds(y, k), answer, table([UNTOUCHED, task(1, RUNNING, left=False, rest=4)], "1,1,1,2,2", charges="0,1")) for y, k, answer in (
+           (0, 0, ok(0, 1)), (7, 1, ok(14, 1)), (NONE, 0, ok(NONE, 1)), (2147483648, 1, no(23, 1)), (0, 32, ok(0, 1)))],
+       (TICK, ok(0, 1)))
+
+tables("milliseconds-in-any-state",
+       "Current Blocked with a limit, Sleeping, Suspended and Terminated: its state, limit and sleep and the queue stay (02, W-204; 05, 28)",
+       *added(128, 128), (START, ok(1, 1)),
+       *[pair for call, slot, limits in (
+           (ACQUIRE_WITHIN(0, 9), task(1, BLOCKED, left=False), {1: "s,0,9,0"}), (SLEEP(4), task(1, SLEEPING, left=False, wake=4), {}),
+           (status(4), task(1, SUSPENDED, left=False, wake=4), {}), (EXIT, task(1, TERMINATED, left=False, rest=0), {}))
+         for after in [table([UNTOUCHED, slot, task(2, READY, left=False)], "0,1,1,3,3", semaphores=objects(o0="0,[1]"), limits=limits)]
+         for pair in ((call, ok(0, 1), after), (milliseconds(5), ok(5, 1), after), (milliseconds(1, 32), no(23, 1), after))],
+       (switch(0), ok(2, 2)), (milliseconds(5), ok(5, 2)))
+
+# By hand: 1000 * t = ms * hz + rest. At 999: 1,000 = 1 * 999 + 1; 998,000 = 998 * 999 + 998. At 1001: 2,000 = 1 * 1,001 + 999;
+# 1,000,000 = 999 * 1,001 + 1; 1,002,000 = 1,000 * 1,001 + 1,000. At 2^32 - 1: 4,294,968,000 = 1 * hz + 705, and 4,294,967,000, of one
+# tick fewer, is less than hz.
+tables("milliseconds-at-other-rates",
+       "By the hz of fresh, rounded down: one tick is 1,000 ms at 1 hz, 10 at 100, 1 at 999, 0 at 1,001 and at 2^32 - 1 (02, W-204; 05, 29)",
+       *[pair for hz, asked in (
+           (1, ((0, 0), (1, 1000), (2, 2000), (3600, 3600000))), (100, ((0, 0), (1, 10), (11, 110))),
+           (999, ((0, 0), (1, 1), (2, 2), (998, 998), (999, 1000))), (1001, ((0, 0), (1, 0), (2, 1), (1000, 999), (1001, 1000), (1002, 1000))),
+           (NONE, ((0, 0), (1, 0), (4294967, 0), (4294968, 1), (NONE - 1, 999), (NONE, 1000))))
+         for pair in ((fresh(hz), ok(0, 0), FRESH), *[(milliseconds(t), ok(ms, 0), FRESH) for t, ms in asked])],
+       (fresh(0), no(7, 0)), (milliseconds(NONE), ok(1000, 0)), (START, ok(0, 0)), (milliseconds(4294968), ok(1, 0)),
+       (fresh(1000), ok(0, 0)), (milliseconds(4294968), ok(4294968, 0)))
+
+# By hand, with m = 4,294,967,295, the largest answer. At 1: 1000 * 4,294,967 is 295 below m, 1000 * 4,294,968 is 705 above. At 100:
+# 10 * 429,496,729 is 5 below, 10 * 429,496,730 is 5 above. At 999: 4,290,672,328,000 = m * 999 + 295; 1,000 more = (m + 1) * 999 + 296.
+# At 1001: 4,294,967,295,000 = 4,290,676,618 * 1,001 + 382. The last ticks before 23 are 4,299,262,263, odd and past 32 bits; of one fewer
+# 4,299,262,262,000 = (m - 1) * 1,001 + 706, of one more 4,299,262,264,000 = (m + 1) * 1,001 + 704. At m: the last ticks before 23 are
+# 18,446,744,069,414,584, with 55 bits, so the nearest are multiples of 2^23. 2,199,023,255 * 2^23 is 18,446,744,069,079,040, and 1000
+# times that is m * m + 3,959,422,975; 2,199,023,256 * 2^23 is 18,446,744,077,467,648, and 1000 times that is (m + 2) * m + 3,758,096,385.
+tables("milliseconds-up-to-23",
+       "The last ticks that are accepted and the first that are 23, at six rates: as near as y times 2^k comes (02, W-204)",
+       *[pair for hz, asked in (
+           (1000, ((NONE, 0, NONE), (2147483648, 1, None))), (1, ((4294967, 0, 4294967000), (4294968, 0, None), (NONE, 0, None))),
+           (100, ((429496729, 0, 4294967290), (429496730, 0, None))), (999, ((4290672328, 0, NONE), (4290672329, 0, None))),
+           (1001, ((NONE, 0, 4290676618), (2149631131, 1, NONE - 1), (2149631132, 1, None))),
+           (NONE, ((2199023255, 23, NONE), (2199023256, 23, None))))
+         for pair in ((fresh(hz), ok(0, 0)), *[(milliseconds(y, k), no(23, 0) if ms is None else ok(ms, 0), FRESH) for y, k, ms in asked])])
+
+# By hand, with m as above: 1000 * 2,199,023,256 * 2^23 = 2^64 + 3,758,096,384; 1000 * 2^61 = 125 * 2^64; 1000 * 4,294,968 * 2^32 =
+# 2^64 + 704 * 2^32. The most ticks are 2^64 - 2^32; 1000 times that is 1000 * 2^32 short of 1000 * 2^64, and in 64 bits
+# 4,294,966,296 * m + 4,294,966,296. A product that wraps would make answers of these: at hz 1000 3,758,096 and 0, at hz m 0, 0, 704 and
+# 4,294,966,296. At hz m, accepted: 1000 * 2^32 = 1000 * m + 1000; 1000 * 3 * 2^31 = 1500 * m + 1500; 1000 * 2 * m = 2000 * m;
+# 1000 * 4,294,967 * 2^32 = 4,294,967,000 * m + 4,294,967,000.
+tables("milliseconds-past-64-bits",
+       "23 where 1000 times the ticks passes 2^64, also where 64 bits of it are 0 or few; below that, ticks past 32 bits (02, W-204; 05, 30)",
+       *[pair for hz in (1000, 1, 999, NONE)
+         for pair in ((fresh(hz), ok(0, 0)), *[(milliseconds(y, k), no(23, 0), FRESH) for y, k in (
+             (2199023256, 23), (1 << 29, 32), (7 << 29, 32), (4294968, 32), (1 << 31, 30), (NONE, 31), (NONE, 32))])],
+       *[(milliseconds(y, k), ok(ms, 0), FRESH) for y, k, ms in (
+           (1, 32, 1000), (3, 31, 1500), (2, 31, 1000), (NONE, 1, 2000), (4294967, 32, 4294967000), (2199023255, 23, NONE))])
+
+tables("milliseconds-of-a-sleep",
+       "The ticks that are left of a sleep, asked back: from 1,000 hz on the same milliseconds, below as many as they last (02, W-204; 05, 29)",
+       (fresh(100), ok(0, 0)), *added(128, 128), (START, ok(1, 1)), (TICK, ok(0, 1)), (TICK, ok(0, 1)),
+       (SLEEP(25), ok(0, 1),
+        table([UNTOUCHED, task(1, SLEEPING, left=False, wake=5, rest=3), task(2, READY, left=False)], "2,1,1,3,3", charges="0,2")),
+       (milliseconds(3), ok(30, 1)), (switch(0), ok(2, 2)), (TICK, ok(0, 2)), (milliseconds(2), ok(20, 2)), (TICK, ok(0, 2)),
+       (milliseconds(1), ok(10, 2)),
+       (TICK, ok(1, 2),
+        table([UNTOUCHED, task(1, READY, wake=5, rest=3), task(2, RUNNING, left=False, rest=2)], "5,1,2,3,3", charges="0,2,3")),
+       (milliseconds(0), ok(0, 2)),
+       *[pair for hz, slept in ((3, ((1, 1, 333), (333, 1, 333), (334, 2, 666), (1000, 3, 1000))), (999, ((1, 1, 1), (999, 999, 1000))),
+                                (1000, ((1, 1, 1), (NONE, NONE, NONE))), (1001, ((1, 2, 1), (7, 8, 7), (1000, 1001, 1000))),
+                                (NONE, ((1, 4294968, 1), (1000, NONE, 1000))))
+         for pair in ((fresh(hz), ok(0, 0)), (START, ok(0, 0)), *[
+             pair for ms, ticks, back in slept for after in [table([f"0,0,3,255,{ticks},1,1,0,-,0,8192,8192,0"], "0,1,0,1,1")]
+             for pair in ((SLEEP(ms), ok(0, 0), after), (milliseconds(ticks), ok(back, 0), after))])])
+
 # Current id and result
 
 tables("current-id", "2 before the start; then the id of the task in slot current, which is not the slot (01, state calls; 04)",
@@ -820,9 +904,11 @@ def check(program, name, calls):
         assert not after or printed[2 * at + 1] == after[0], (name, at, call, printed[2 * at + 1], after[0])
         if at >= end:
             assert at > end or replayed(asked, call) == request, (name, at, call)
+        elif program == "tables" and call[:2] == "18" and answer[:2] != "ff":
+            assert replayed(asked, call) == "W-204", (name, at, call)
         elif in_domain(call, answer):
             asked.append(call)
-        elif program == "tables" or call[:2] not in ("15", "16", "1b", "1c", "1d", "1e", "1f"):     # of `tables` alone
+        elif program == "tables" or call[:2] not in ("15", "16", "18", "1b", "1c", "1d", "1e", "1f"):     # of `tables` alone
             number = replayed(asked, call)
             assert number == answer[:2], (name, at, call, number, answer)
     model.replay("".join(call + "\n" for call in asked).encode(), mine)

@@ -1,7 +1,7 @@
 #!/usr/bin/env python3
 """Random lists for `turns` or `tables` that meet every refusal that a list from fresh can meet there, with malformed lines; lists
 in which release or signal drops up to eight heads; and for `tables` lists in which limits end: out of queues of up to eight by
-their own ticks, and in every other way.
+their own ticks, and in every other way; and lists with the milliseconds of ticks, at many rates.
 
   frames.py SEED LINES MALFORMED LISTS turns|tables PROGRAM [ARG..]
         LISTS lists of LINES lines, from SEED on, MALFORMED of them malformed (0.03 is 3 in 100), and ten times as many of
@@ -20,6 +20,8 @@ import model
 DROPS = {0xa: 0xb, 0xd: 0xf, 0x10: 0x11}
 # The form with a limit of what queues current.
 WITHIN = {0xd: 0x15, 0x10: 0x16}
+# The rates at which the milliseconds of ticks are asked.
+RATES = [1, 2, 3, 7, 100, 999, 1000, 1001, 1024, 32768, 10**6, 2**31, model.U32]
 
 
 def malformed():
@@ -328,6 +330,34 @@ def queues(seed):
     return b"\n".join(out)
 
 
+def some_ticks(rng, hz):
+    """Operands k and y of 18, which takes y * 2^k ticks: where a millisecond is full, where 23 begins, where 1000 times the ticks passes
+    2^64 or a multiple of it, or is one; few or any ticks. Exactly these, or the nearest that k allows; at times k is too large."""
+    ticks = rng.choice([
+        -(-rng.randrange(1 << rng.randrange(1, 33)) * hz // 1000), (hz << 32) // 1000, (hz << 32) // 1000, (rng.randrange(1, 1000) << 64) // 1000,
+        (1 << 64) // 1000, rng.randrange(1, 8) << 61, rng.randrange(4), rng.randrange(1 << rng.randrange(1, 65))])
+    k = max(0, ticks.bit_length() - 32)
+    if rng.random() < .3:
+        k = rng.randrange(k, 33)
+    y = max(0, min(model.U32, (ticks >> k) + rng.choice([-1, 0, 0, 1, 1])))
+    return (rng.choice([33, 34, 63, 64, 128, 255]), rng.choice([0, y])) if rng.random() < .05 else (k, y)
+
+
+def times(seed):
+    """A list of `tables`, as bytes: a fresh kernel at some rate, by the seed each of RATES in turn, and every second time any; then calls of
+    all kinds, and between them the milliseconds of ticks."""
+    calls = model.lines_of(make(seed, 30, 0, True))
+    rng, machine, out = random.Random(seed), model.Machine(True), []
+    rate = RATES[seed // 2 % len(RATES)] if seed % 2 == 0 else rng.randrange(1, 1 << rng.randrange(1, 33))
+    for call in [f"1f00{rate:08x}".encode(), *calls]:
+        out.append(call)
+        machine.step(call)
+        for _ in range(rng.randrange(4)):
+            k, y = some_ticks(rng, machine.kernel.hz)
+            out.append(f"18{k:02x}{y:08x}".encode())
+    return b"\n".join(out)
+
+
 if __name__ == "__main__":
     if len(sys.argv) > 4 and sys.argv[1] == "late":
         made = [limits(seed, model.LATE) for seed in range(int(sys.argv[2]), int(sys.argv[2]) + int(sys.argv[3]))]
@@ -338,5 +368,5 @@ if __name__ == "__main__":
     first, lines, share, lists = int(sys.argv[1]), int(sys.argv[2]), float(sys.argv[3]), int(sys.argv[4])
     made = [make(seed, lines, share, sys.argv[5] == "tables") for seed in range(first, first + lists)]
     made += [queues(seed) for seed in range(first, first + 10 * lists)]
-    made += [kind(seed) for kind in (limits, ended) for seed in range(first, first + 10 * lists) if sys.argv[5] == "tables"]
+    made += [kind(seed) for kind in (limits, ended, times) for seed in range(first, first + 10 * lists) if sys.argv[5] == "tables"]
     against.compare(made, sys.argv[5], sys.argv[6:])

@@ -1,6 +1,6 @@
 #!/usr/bin/env python3
-"""A model of document 01's step with document 02's W-201 and W-202, following the words of documents 01 to 05. Its author had read
-the published Rust too.
+"""A model of document 01's step with document 02's W-201, W-202 and W-204, following the words of documents 01 to 05. Its author had
+read the published Rust too.
 
   model.py turns    standard input as `turns` reads it; prints what `turns` prints
   model.py tables   the same for `tables`, which has operations of its own: after each answer the table
@@ -24,6 +24,18 @@ def ms_to_ticks(hz, ms):
     if hz == 0:
         return 1
     return -(-ms * hz // 1000)
+
+
+def ticks_to_ms(hz, ticks):
+    """As 02 has it: the largest number of milliseconds, of 32 bits, whose tick count is at most these ticks. Looked for by halving."""
+    fits, beyond = 0, U32 + 1
+    while beyond - fits > 1:
+        middle = (fits + beyond) // 2
+        if ms_to_ticks(hz, middle) <= ticks:
+            fits = middle
+        else:
+            beyond = middle
+    return fits
 
 
 def pick(states, priorities, current):
@@ -469,6 +481,14 @@ class Kernel:
             event.signalled = True
         return 0, int(woken)
 
+    def ticks_to_ms(self, ticks):
+        quotient = 1000 * ticks // self.hz
+        if quotient > U32:
+            return 23, 0
+        ms = ticks_to_ms(self.hz, ticks)
+        assert ms == quotient       # 05, 29
+        return 0, ms
+
     def list(self, arena, records):
         """Writes (id, state, priority, used, total) into a lent list."""
         if len(records) < self.task_count:
@@ -551,6 +571,7 @@ TABLES = {
     **TURNS,
     0x15: ("ky", lambda machine, k, y: machine.kernel.acquire(k, y)),
     0x16: ("ky", lambda machine, k, y: machine.kernel.event_wait(k, y)),
+    0x18: ("ky", lambda machine, k, y: machine.ticks_to_ms(y, k)),
     0x1B: ("k", lambda machine, k, y: machine.list(k)),
     0x1C: ("", lambda machine, k, y: machine.kernel.current_id()),
     0x1D: ("ky", lambda machine, k, y: machine.kernel.result(y, k - 256 if k >= 128 else k)),
@@ -581,6 +602,10 @@ class Machine:
         if number == 0:
             self.appended = " " + ";".join(",".join(map(str, record)) for record in records[:written])
         return number, written
+
+    def ticks_to_ms(self, y, k):
+        """Of y * 2^k ticks."""
+        return (0xFF, 0) if k > 32 else self.kernel.ticks_to_ms(y << k)
 
     def word(self, at, what):
         """No call: a word of the lent arena becomes 0 or the paint."""
@@ -648,11 +673,35 @@ def limits_met(current, before, kernel, op, k, answer):
         yield "tick", "several of one queue" if len(set(places)) < len(places) else "several" if len(places) > 1 else "one", runs
 
 
+def times_met(kernel, k, y, number):
+    """What was asked of milliseconds from y * 2^k ticks, as tuples; see TIMES in tests/adversarial/run."""
+    hz, ticks = kernel.hz, y << k
+    rate = "below 1000" if hz < 1000 else "at 1000" if hz == 1000 else "above 1000"
+    refused = lambda y: 1000 * (y << k) // hz > U32
+    yield "current", kernel.own().state, kernel.started, number
+    if y == 0:
+        yield rate, "no ticks"
+    else:
+        yield "k", k, number
+        if 1000 * ticks < hz:
+            yield rate, "ticks that are 0 ms"
+        if number == 0:
+            yield rate, "rounded down" if 1000 * ticks % hz else "exact"
+    if not refused(y) and refused(y + 1):
+        yield rate, "last before 23"
+    if refused(y) and not refused(y - 1):
+        yield rate, "first with 23"
+    if 1000 * ticks > U64:
+        yield rate, "past 2^64"
+        if (1000 * ticks & U64) // hz <= U32:
+            yield rate, "past 2^64, accepted if it wrapped"
+
+
 def run(data, tables, out, tick=0):
     """Appends what `turns` or `tables` prints, line by line. Gives the pairs of operation and number that were met; of each
-    release and signal that dropped heads the operation, their states (EMPTY for one that is gone) and how many ids stay queued; and
-    what was done to limits."""
-    machine, table, met, drops, limits = Machine(tables, tick), None, set(), set(), set()
+    release and signal that dropped heads the operation, their states (EMPTY for one that is gone) and how many ids stay queued; what
+    was done to limits; and of which ticks milliseconds were asked."""
+    machine, table, met, drops, limits, times = Machine(tables, tick), None, set(), set(), set(), set()
     for line in lines_of(data):
         kernel = machine.kernel
         current, before = kernel.current, {at: (t.id, t.limit, t.ended) for at, t in enumerate(kernel.slots) if t is not None} if tables else {}
@@ -662,12 +711,14 @@ def run(data, tables, out, tick=0):
             drops.add((op, tuple(machine.kernel.dropped), machine.kernel.left))
         if kernel is machine.kernel:
             limits.update(limits_met(current, before, kernel, op, None if op is None else int(line[2:4], 16), (number, value)))
+        if op == 0x18 and number != 0xFF:
+            times.update(times_met(kernel, int(line[2:4], 16), int(line[4:12], 16), number))
         out.append(machine.answer(number, value))
         if tables:
             if number == 0 or table is None:    # a refusal alters nothing
                 table = machine.kernel.table() + "\n"
             out.append(table)
-    return met, drops, limits
+    return met, drops, limits, times
 
 
 def replay(data, out):

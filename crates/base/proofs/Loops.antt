@@ -1,4 +1,4 @@
--- Counted loops: one invariant for all of them, and what `all`, `any`, `count` and `lowest` tell of each number.
+-- Counted loops: one invariant for all of them, and what `all`, `any`, `count`, `lowest` and `largest` tell of each number.
 use Prim.Native.Nat.{ℕ, zero, suc, _+_, _-_, _≤_, _<_, zero-le}
 use native.Mathlib.Omega.{arith}
 use native.Mathlib.Nat.{le-refl}
@@ -14,7 +14,7 @@ use native.Mathlib.Numerals.{add-one}
 use mir.Val.{boolByte}
 use borrow.Author.Tests.{lt-ltb, le-ltb, ltb-true, ltb-false}
 use Rattle.base.specs.Choice.{if_then_else_}
-use Rattle.base.specs.Below.{allBelow, anyBelow, countBelow, lowestBelow, tabulate}
+use Rattle.base.specs.Below.{allBelow, anyBelow, countBelow, lowestBelow, largestBelow, tabulate}
 use Rattle.base.proofs.Choices.{and-left, and-right, either, through}
 
 -- A loop's invariant: x is f of the i turns done, of n.
@@ -236,6 +236,18 @@ pub lowest-none : (p : ℕ → Bool) (n : ℕ) → ((i : ℕ) → i < n → p i 
 unfolding lowestBelow if_then_else_
 lowest-none p zero f = refl
 lowest-none p (suc n) f = rw (lowest-none p n (λ i h. f i (omega arith)), le-ltb n n (le-refl n), f n (omega arith))
+
+-- ---- largest
+
+-- p holds of m and of none above it
+pub largest-is : (p : ℕ → Bool) (n m : ℕ) → m < n → p m ≡ true → ((i : ℕ) → m < i → p i ≡ false) → largestBelow p n ≡ m
+unfolding largestBelow if_then_else_
+largest-is p zero m h e above = absurd (omega arith)
+largest-is p (suc n) m h e above =
+    elim (decLt m n) [
+      | yes q ↦ rw (above n q) (largest-is p n m q e above)
+      | no q ↦ let is : m ≡ n = only m n h q in rw (← is, e) refl
+    ]
 
 -- ---- tabulate
 

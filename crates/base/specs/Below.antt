@@ -25,6 +25,11 @@ unfoldable pub lowestBelow : (ℕ → Bool) → ℕ → ℕ
 lowestBelow p zero = 0
 lowestBelow p (suc n) = if ltb (lowestBelow p n) n then lowestBelow p n else if p n then n else suc n
 
+-- the largest of them that p holds of; 0 where there is none
+unfoldable pub largestBelow : (ℕ → Bool) → ℕ → ℕ
+largestBelow p zero = 0
+largestBelow p (suc n) = if p n then n else largestBelow p n
+
 -- f of each of them, in order
 unfoldable pub tabulate : {A : Type 0} → (ℕ → A) → ℕ → List A
 tabulate f zero = []

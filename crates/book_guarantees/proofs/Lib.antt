@@ -7,3 +7,4 @@ pub mod Invariant
 pub mod TurnGuarantee
 pub mod Wakings
 pub mod Limits
+pub mod Milliseconds

@@ -10,7 +10,7 @@ use Rattle.base.proofs.Choices.{and-left, and-right, either, taken, left}
 use Rattle.kernel.specs.declared.scheduler.Kernel.{Kernel}
 use Rattle.kernel.specs.declared.scheduler.Answer.{Answer}
 use Rattle.kernel.specs.Kernel.{arenaFits}
-use Rattle.kernel.specs.Calls.{Call, add, start, tick, switch, current-id, status, block, sleep, wake, exit, wait, reap, reap-one, result, lock, try-lock, unlock, acquire, acquire-within, try-acquire, release, event-wait, event-wait-within, signal, list, Check, _when_, firstOf, notWhole, checks, number, step, addWords, listRecords, init, initNumber, initWords, pickBytes}
+use Rattle.kernel.specs.Calls.{Call, add, start, tick, switch, current-id, status, block, sleep, wake, exit, wait, reap, reap-one, result, lock, try-lock, unlock, acquire, acquire-within, try-acquire, release, event-wait, event-wait-within, signal, list, ticks-to-ms, Check, _when_, firstOf, notWhole, checks, number, step, addWords, listRecords, init, initNumber, initWords, pickBytes}
 use Rattle.kernel.proofs.Pick.{pick-lt}
 use Rattle.book_guarantees.specs.Refusals.{numbers, freshNumbers, among, Refusals}
 
@@ -50,6 +50,7 @@ checks-known k (event-wait e) = refl
 checks-known k (event-wait-within e ticks) = refl
 checks-known k (signal e) = refl
 checks-known k (list arena records) = refl
+checks-known k (ticks-to-ms ticks) = refl
 
 number-known : (k : Kernel) (c : Call) → among (number k c) (0 ∷ 1 ∷ numbers c) ≡ true
 unfolding number

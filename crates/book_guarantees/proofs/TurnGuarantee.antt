@@ -20,7 +20,7 @@ use Rattle.kernel.specs.Control.{blankSlot}
 use Rattle.kernel.specs.Kernel.{slot, charge, current}
 use Rattle.kernel.specs.Scheduler.{priorityOf, wantsSwitch}
 use Rattle.kernel.specs.Scheduler
-use Rattle.kernel.specs.Calls.{Call, add, start, switch, current-id, status, block, sleep, wake, exit, wait, reap, reap-one, result, lock, try-lock, unlock, acquire, acquire-within, try-acquire, release, event-wait, event-wait-within, signal, list, Kind, plain, kind, number, value, effect, valueNumber, step, init, initNumber, Reached}
+use Rattle.kernel.specs.Calls.{Call, add, start, switch, current-id, status, block, sleep, wake, exit, wait, reap, reap-one, result, lock, try-lock, unlock, acquire, acquire-within, try-acquire, release, event-wait, event-wait-within, signal, list, ticks-to-ms, Kind, plain, kind, number, value, effect, valueNumber, step, init, initNumber, Reached}
 use Rattle.kernel.specs.Calls
 use Rattle.kernel.proofs.Accepted.{start-off, switch-on}
 use Rattle.kernel.proofs.Pick.{pick-lt}
@@ -145,6 +145,7 @@ module _ (rank : Kernel → ℕ → ℕ) where
     accepted-fact k (event-wait-within n ticks) i m cs = other-fact tt i cs
     accepted-fact k (signal n) i m cs = other-fact tt i cs
     accepted-fact k (list arena records) i m cs = other-fact tt i cs
+    accepted-fact k (ticks-to-ms ticks) i m cs = other-fact tt i cs
 
     -- the invariant of every kernel from fresh
     pub reached-invariant : {k : Kernel} → Reached k → Invariant k

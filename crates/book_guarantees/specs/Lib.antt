@@ -3,3 +3,4 @@ pub mod Lists
 pub mod Turns
 pub mod Wakings
 pub mod Limits
+pub mod Milliseconds

@@ -12,7 +12,7 @@ use Rattle.kernel.specs.declared.control.TaskInfo.{TaskInfo}
 use Rattle.kernel.specs.declared.scheduler.Kernel.{Kernel}
 use Rattle.kernel.specs.declared.scheduler.Value.the-variants.{Nothing}
 use Rattle.kernel.specs.Kernel.{blankKernel}
-use Rattle.kernel.specs.Calls.{Call, add, start, tick, switch, current-id, status, block, sleep, wake, exit, wait, reap, reap-one, result, lock, try-lock, unlock, acquire, acquire-within, try-acquire, release, event-wait, event-wait-within, signal, list, step, addWords, listRecords, init, initWords, pickRefused, pickBytes}
+use Rattle.kernel.specs.Calls.{Call, add, start, tick, switch, current-id, status, block, sleep, wake, exit, wait, reap, reap-one, result, lock, try-lock, unlock, acquire, acquire-within, try-acquire, release, event-wait, event-wait-within, signal, list, ticks-to-ms, step, addWords, listRecords, init, initWords, pickRefused, pickBytes}
 
 -- 01's table "Where a call is turned back", as 02 continues it: the numbers of each kernel call after 1, which every kernel call has, in the order of its checks
 abbrev pub numbers : Call → List ℕ
@@ -41,6 +41,7 @@ numbers (event-wait e) = 20 ∷ 2 ∷ 12 ∷ []
 numbers (event-wait-within e ticks) = 20 ∷ 2 ∷ 7 ∷ 12 ∷ []
 numbers (signal e) = 20 ∷ []
 numbers (list arena records) = 21 ∷ []
+numbers (ticks-to-ms ticks) = 23 ∷ []
 
 -- and of fresh
 abbrev pub freshNumbers : List ℕ

@@ -1,6 +1,7 @@
 pub mod Queue
 pub mod Pick
 pub mod Whole
+pub mod Timer
 pub mod Step
 pub mod Checks
 pub mod Accepted

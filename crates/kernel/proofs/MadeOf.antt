@@ -23,7 +23,7 @@ use Rattle.kernel.specs.Mutex.{ownsMutex, isHanded}
 use Rattle.kernel.specs.Semaphore
 use Rattle.kernel.specs.Semaphore.{hasPermit}
 use Rattle.kernel.specs.Event
-use Rattle.kernel.specs.Calls.{Call, add, start, tick, switch, current-id, status, block, sleep, wake, exit, wait, reap, reap-one, result, lock, try-lock, unlock, acquire, acquire-within, try-acquire, release, event-wait, event-wait-within, signal, list, number, effect, Kind, kind, plain, owning, switching, ticking, reaping}
+use Rattle.kernel.specs.Calls.{Call, add, start, tick, switch, current-id, status, block, sleep, wake, exit, wait, reap, reap-one, result, lock, try-lock, unlock, acquire, acquire-within, try-acquire, release, event-wait, event-wait-within, signal, list, ticks-to-ms, number, effect, Kind, kind, plain, owning, switching, ticking, reaping}
 use Rattle.kernel.proofs.Pick.{pick-lt}
 use Rattle.kernel.proofs.Tasks.{found-occupied}
 use Rattle.kernel.proofs.Whole.{Whole}
@@ -277,3 +277,4 @@ made-of k (signal v) e =
     let w = heads (λ k′. event k′ v) (currentId (wakeOne q k .kernel)) k (accepted-is k (signal v) e) q (λ _. refl) (q .len) q (λ _ _. still) in
     w .tasks then flag {k = wakeOne q k .kernel} v _ (wakeOne q k .waiters) (accepted-object k (signal v) v _ e refl) (rw (w .beside) (w .queue))
 made-of k (list arena records) e = none
+made-of k (ticks-to-ms ticks) e = none

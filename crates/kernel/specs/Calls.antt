@@ -1,5 +1,5 @@
 -- Every public call: what refuses it, what it answers and what it does (01, "Where a call is turned back").
-use Prim.Native.Nat.{ℕ, zero, suc, _+_, _^_, _-_}
+use Prim.Native.Nat.{ℕ, zero, suc, _+_, _*_, _/_, _^_, _-_}
 use mathlib.Core.Path.{_≡_}
 use mathlib.Core.Bool.{Bool, false, _&&_, _||_, not}
 use mathlib.Core.List.{List, [], _∷_, _++_}
@@ -8,7 +8,7 @@ use lib.IntN.{ℤ}
 use lib.ListN.{length, getD, drop}
 use Rattle.base.specs.Choice.{if_then_else_}
 use Rattle.base.specs.Below.{anyBelow}
-use Rattle.kernel.specs.Types.{TaskId, Priority, OptionTaskId, None, Some, Terminated, StackRegion, TaskControl, TaskInfo, WaitQueue, Kernel, Value, Nothing, Id, Turn, Region, NoRegion, YesNo, Count, Answer}
+use Rattle.kernel.specs.Types.{TaskId, Priority, OptionTaskId, None, Some, Terminated, StackRegion, TaskControl, TaskInfo, WaitQueue, Kernel, Value, Nothing, Id, Turn, Region, NoRegion, YesNo, Count, Milliseconds, Answer}
 use Rattle.kernel.specs.Control.{inState, sameId, stateOf, regionFits, spInRange, stackGuardOk, painted, stackUsed}
 use Rattle.kernel.specs.WaitQueue.{contains, isFull, isEmpty}
 use Rattle.kernel.specs.Kernel.{slot, current, currentTask, currentId, slotOf, isPresent, mutex, semaphore, event, arenaFits, whole, blankKernel, freshKernel}
@@ -19,6 +19,7 @@ use Rattle.kernel.specs.Mutex.{ownsMutex, isHanded, lockAnswer}
 use Rattle.kernel.specs.Semaphore
 use Rattle.kernel.specs.Semaphore.{hasPermit}
 use Rattle.kernel.specs.Event
+use Rattle.kernel.specs.Timer.{ticksToMs}
 
 -- ---- the kernel calls, with their arguments; lent words and records as they are at the call
 
@@ -48,6 +49,7 @@ pub data Call : Type 0 where
   event-wait-within : (event ticks : ℕ) → Call
   signal : (event : ℕ) → Call
   list : (arena : List ℕ) (records : List TaskInfo) → Call
+  ticks-to-ms : (ticks : ℕ) → Call
 
 -- ---- which sort of call it is: what is said of every call, or of every list, goes by these
 
@@ -85,6 +87,7 @@ kind (event-wait e) = plain
 kind (event-wait-within e ticks) = plain
 kind (signal e) = plain
 kind (list arena records) = plain
+kind (ticks-to-ms ticks) = plain
 
 -- ---- the number: 0, or that of the first check that refuses the call, in 01's order, as 02 continues it
 
@@ -194,6 +197,8 @@ checks k (event-wait-within e ticks) =
     ∷ []
 checks k (signal e) = noObject e ∷ []
 checks k (list arena records) = otherLength k arena ∷ (21 when ltb (length records) (k .«task_count»)) ∷ []
+-- "the quotient of 1000 × t by hz passes 4,294,967,295"
+checks k (ticks-to-ms ticks) = (23 when ltb 4294967295 (1000 * ticks / k .hz)) ∷ []
 
 unfoldable pub number : Kernel → Call → ℕ
 number k c = firstOf (notWhole k ∷ checks k c)
@@ -230,8 +235,9 @@ value k (event-wait e) = YesNo (event k e .signaled)
 value k (event-wait-within e ticks) = YesNo (event k e .signaled)
 value k (signal e) = YesNo (wakeOne (event k e .waiters) k .woke)
 value k (list arena records) = Count (k .«task_count»)
+value k (ticks-to-ms ticks) = Milliseconds (ticksToMs ticks (k .hz))
 
--- the value as `turns` prints it: id, slot, region start, 1 or 0 for yes or no, 0xffffffff for no region, otherwise 0; for list, which is no operation of `turns`, the count. Contracts equate the value itself.
+-- the value as `turns` prints it: id, slot, region start, 1 or 0 for yes or no, 0xffffffff for no region, otherwise 0; for list and for the milliseconds, which are no operations of `turns`, the count and the milliseconds. Contracts equate the value itself.
 unfoldable pub valueNumber : Value → ℕ
 valueNumber Nothing = 0
 valueNumber (Id a) = a .0
@@ -240,6 +246,7 @@ valueNumber (Region r) = r .start
 valueNumber NoRegion = 0xffffffff
 valueNumber (YesNo b) = if b then 1 else 0
 valueNumber (Count n) = n
+valueNumber (Milliseconds n) = n
 
 -- ---- the effect of an accepted call, on the kernel and on what is lent
 
@@ -269,6 +276,7 @@ effect k (event-wait e) = Event.eventWait e k
 effect k (event-wait-within e ticks) = Event.eventWaitWithin e ticks k
 effect k (signal e) = Event.signal e k
 effect k (list arena records) = k
+effect k (ticks-to-ms ticks) = k
 
 -- ---- the step
 

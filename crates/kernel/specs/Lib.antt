@@ -1,4 +1,4 @@
--- The machine of document 01, as document 02 has changed it: W-201. To be read in this order.
+-- The machine of document 01, as document 02 has changed it. To be read in this order.
 pub mod Types
 pub mod Update
 pub mod Control

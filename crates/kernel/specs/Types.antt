@@ -17,5 +17,5 @@ pub use Rattle.kernel.specs.declared.semaphore.Semaphore.{Semaphore}
 pub use Rattle.kernel.specs.declared.event.Event.{Event}
 pub use Rattle.kernel.specs.declared.scheduler.Kernel.{Kernel}
 pub use Rattle.kernel.specs.declared.scheduler.Value.{Value}
-pub use Rattle.kernel.specs.declared.scheduler.Value.the-variants.{Nothing, Id, Turn, Region, NoRegion, YesNo, Count}
+pub use Rattle.kernel.specs.declared.scheduler.Value.the-variants.{Nothing, Id, Turn, Region, NoRegion, YesNo, Count, Milliseconds}
 pub use Rattle.kernel.specs.declared.scheduler.Answer.{Answer}

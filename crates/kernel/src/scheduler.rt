@@ -34,6 +34,7 @@ pub enum Value {
     NoRegion,
     YesNo(bool),
     Count(usize),
+    Milliseconds(u32),
 }
 
 // What every call hands back; number 0 is accepted.

@@ -17,5 +17,6 @@ pub fn value_number(value: Value) -> u64
         Value::NoRegion => u32::MAX as u64,
         Value::YesNo(yes) => yes as u64,
         Value::Count(n) => n as u64,
+        Value::Milliseconds(ms) => ms as u64,
     }
 }

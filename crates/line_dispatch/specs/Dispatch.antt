@@ -1,5 +1,5 @@
 -- What a frame asks for, and what is answered (01, "Program `turns`"; README, "The operations").
-use Prim.Native.Nat.{ℕ, _-_, _/_, _%_}
+use Prim.Native.Nat.{ℕ, _-_, _*_, _/_, _%_, _^_, min}
 use mathlib.Core.List.{List, []}
 use lib.Dec.{eqb, ltb}
 use lib.IntN.{ℤ, pos, negsuc}
@@ -14,9 +14,9 @@ use Rattle.kernel.specs.declared.scheduler.Value.the-variants.{Nothing}
 use Rattle.kernel.specs.declared.scheduler.Answer.{Answer}
 use Rattle.kernel.specs.Control.{paint}
 use Rattle.kernel.specs.Timer.{msToTicks}
-use Rattle.kernel.specs.Calls.{Call, add, start, tick, switch, current-id, status, block, sleep, wake, exit, wait, reap, reap-one, result, lock, try-lock, unlock, acquire, acquire-within, try-acquire, release, event-wait, event-wait-within, signal, list, number, accepted, refused, step, addWords, listRecords, initNumber, init, initWords}
+use Rattle.kernel.specs.Calls.{Call, add, start, tick, switch, current-id, status, block, sleep, wake, exit, wait, reap, reap-one, result, lock, try-lock, unlock, acquire, acquire-within, try-acquire, release, event-wait, event-wait-within, signal, list, ticks-to-ms, number, accepted, refused, step, addWords, listRecords, initNumber, init, initWords}
 use Rattle.line_frame.specs.declared.Operation.{Operation}
-use Rattle.line_frame.specs.declared.Operation.the-variants.{Unknown, Add, Start, Tick, Switch, Exit, Wait, Reap, Sleep, Wake, Lock, Unlock, TryLock, Acquire, TryAcquire, Release, EventWait, Signal, Status, Block, ReapOne, AcquireWithin, EventWaitWithin, CurrentId, Result, Word, Init}
+use Rattle.line_frame.specs.declared.Operation.the-variants.{Unknown, Add, Start, Tick, Switch, Exit, Wait, Reap, Sleep, Wake, Lock, Unlock, TryLock, Acquire, TryAcquire, Release, EventWait, Signal, Status, Block, ReapOne, AcquireWithin, EventWaitWithin, TicksToMs, CurrentId, Result, Word, Init}
 use Rattle.line_frame.specs.declared.Frame.{Frame}
 use Rattle.call_list.specs.Records.{blankInfo}
 use Rattle.line_records.specs.RecordsText.{listText}
@@ -52,6 +52,10 @@ signedByte k = if ltb k 128 then pos k else negsuc (255 - k)
 unfoldable pub wordOf : ℕ → ℕ
 wordOf k = if eqb k 0 then 0 else paint
 
+-- y × 2^k; no line writes a k above 32, which would count as 32
+unfoldable pub ticksOf : ℕ → ℕ → ℕ
+ticksOf k y = y * 2 ^ min k 32
+
 -- by an operation with operands k and y, on a kernel with that hz and with that arena lent
 abbrev pub requestOf : ℕ → List ℕ → Operation → ℕ → ℕ → Request
 requestOf hz arena Unknown k y = none
@@ -77,6 +81,7 @@ requestOf hz arena Block k y = call block
 requestOf hz arena ReapOne k y = call reap-one
 requestOf hz arena AcquireWithin k y = call (acquire-within k y)
 requestOf hz arena EventWaitWithin k y = call (event-wait-within k y)
+requestOf hz arena TicksToMs k y = call (ticks-to-ms (ticksOf k y))
 requestOf hz arena Operation.List k y = listing k
 requestOf hz arena CurrentId k y = call current-id
 requestOf hz arena Result k y = call (result (idOf y) (signedByte k))

@@ -11,14 +11,14 @@ use line_frame::Frame;
 use line_frame::Operation;
 ghost use mathlib.Core.Path.{_≡_};
 ghost use mathlib.Core.Bool.{true, _||_, not};
-ghost use Prim.Native.Nat.{_+_, _≤_};
+ghost use Prim.Native.Nat.{_+_, _≤_, min};
 ghost use lib.Dec.{eqb};
 ghost use lib.ListN.{length, set};
 ghost use Rattle.base.specs.Choice.{if_then_else_};
 ghost use Rattle.kernel.specs.Kernel.{whole};
-ghost use Rattle.kernel.specs.Calls.{current-id, result, acquire-within, event-wait-within, step, initWords};
+ghost use Rattle.kernel.specs.Calls.{current-id, result, acquire-within, event-wait-within, ticks-to-ms, step, initWords};
 ghost use Rattle.line_text.specs.Text.{Writes};
-ghost use Rattle.line_dispatch.specs.Dispatch.{idOf, signedByte, wordOf, freshFor, listAnswer, listAdds, answerTo, wordsAfter, addedTo};
+ghost use Rattle.line_dispatch.specs.Dispatch.{idOf, signedByte, wordOf, ticksOf, freshFor, listAnswer, listAdds, answerTo, wordsAfter, addedTo};
 
 // What stands for the number where a line asks for no call.
 const NO_CALL: u8 = 255;
@@ -38,6 +38,19 @@ fn word_of(k: u8) -> u32
     ensures { λ r. ⌜ r ≡ wordOf k ⌝ }
 {
     if k == 0 { 0 } else { TaskControl::STACK_MAGIC }
+}
+
+fn power(k: u8) -> u8
+    ensures { λ r. ⌜ r ≡ min k 32 ⌝ }
+{
+    if k < 32 { k } else { 32 }
+}
+
+// y × 2^k.
+fn ticks_of(k: u8, y: u32) -> u64
+    ensures { λ r. ⌜ r ≡ ticksOf k y ⌝ }
+{
+    (y as u64) << power(k)
 }
 
 fn set_word(arena: &mut [u32], at: usize, word: u32)
@@ -74,9 +87,9 @@ fn list(k: Kernel, room: usize, arena: &[u32], out: &mut [u8], at: &mut usize) -
     answer
 }
 
-// The calls that `turns` has not: 0 current id, 1 result, 2 acquire with a limit, 3 event wait with a limit.
+// The calls that `turns` has not: 0 current id, 1 result, 2 acquire with a limit, 3 event wait with a limit, 4 milliseconds from ticks.
 fn other(k: Kernel, which: u8, b: u8, y: u32) -> Answer
-    ensures { λ r. ⌜ r ≡ step k (if eqb which 0 then current-id else if eqb which 1 then result (idOf y) (signedByte b) else if eqb which 2 then acquire-within b y else event-wait-within b y) ⌝ }
+    ensures { λ r. ⌜ r ≡ step k (if eqb which 0 then current-id else if eqb which 1 then result (idOf y) (signedByte b) else if eqb which 2 then acquire-within b y else if eqb which 3 then event-wait-within b y else ticks-to-ms (ticksOf b y)) ⌝ }
 {
     let id = TaskId(y);
     let object = b as usize;
@@ -90,7 +103,10 @@ fn other(k: Kernel, which: u8, b: u8, y: u32) -> Answer
     if which == 2 {
         return call_acquire::acquire_within(k, object, ticks);
     }
-    call_event_wait::wait_within(k, object, ticks)
+    if which == 3 {
+        return call_event_wait::wait_within(k, object, ticks);
+    }
+    call_timer::ticks_to_ms(k, ticks_of(b, y))
 }
 
 // What the line adds to its answer is written into `out`, and `at` moves behind it.
@@ -168,6 +184,10 @@ pub fn dispatch(
         },
         Operation::EventWaitWithin => {
             let answer = other(k, 3, f.k, f.y);
+            answer
+        },
+        Operation::TicksToMs => {
+            let answer = other(k, 4, f.k, f.y);
             answer
         },
     }

@@ -6,7 +6,7 @@ use lib.Dec.{eqb, leb, ltb}
 use lib.ListN.{getD, set, replicate}
 use Rattle.base.specs.Choice.{if_then_else_, every}
 use Rattle.line_frame.specs.declared.Operation.{Operation}
-use Rattle.line_frame.specs.declared.Operation.the-variants.{Unknown, Add, Start, Tick, Switch, Exit, Wait, Reap, Sleep, Wake, Lock, Unlock, TryLock, Acquire, TryAcquire, Release, EventWait, Signal, Status, Block, ReapOne, AcquireWithin, EventWaitWithin, CurrentId, Result, Word, Init}
+use Rattle.line_frame.specs.declared.Operation.the-variants.{Unknown, Add, Start, Tick, Switch, Exit, Wait, Reap, Sleep, Wake, Lock, Unlock, TryLock, Acquire, TryAcquire, Release, EventWait, Signal, Status, Block, ReapOne, AcquireWithin, EventWaitWithin, TicksToMs, CurrentId, Result, Word, Init}
 use Rattle.line_frame.specs.declared.Frame.{Frame}
 use Rattle.line_frame.specs.declared.Line.{Line}
 
@@ -44,21 +44,21 @@ isHex l = every (eqb (l .len) 12 ∷ ltb (byteAt l 0) 256 ∷ ltb (byteAt l 1) 2
 
 -- ---- its operation and its operands
 
--- in the order of their numbers, from 00, which is none; so are 17 to 1a
+-- in the order of their numbers, from 00, which is none; so are 17, 19 and 1a
 abbrev pub operations : List Operation
-operations = Unknown ∷ Add ∷ Start ∷ Tick ∷ Switch ∷ Exit ∷ Wait ∷ Reap ∷ Sleep ∷ Wake ∷ Lock ∷ Unlock ∷ TryLock ∷ Acquire ∷ TryAcquire ∷ Release ∷ EventWait ∷ Signal ∷ Status ∷ Block ∷ ReapOne ∷ AcquireWithin ∷ EventWaitWithin ∷ Unknown ∷ Unknown ∷ Unknown ∷ Unknown ∷ Operation.List ∷ CurrentId ∷ Result ∷ Word ∷ Init ∷ []
+operations = Unknown ∷ Add ∷ Start ∷ Tick ∷ Switch ∷ Exit ∷ Wait ∷ Reap ∷ Sleep ∷ Wake ∷ Lock ∷ Unlock ∷ TryLock ∷ Acquire ∷ TryAcquire ∷ Release ∷ EventWait ∷ Signal ∷ Status ∷ Block ∷ ReapOne ∷ AcquireWithin ∷ EventWaitWithin ∷ Unknown ∷ TicksToMs ∷ Unknown ∷ Unknown ∷ Operation.List ∷ CurrentId ∷ Result ∷ Word ∷ Init ∷ []
 
 -- `turns` has those up to 14
 unfoldable pub operationOf : Bool → ℕ → Operation
 operationOf tables n = if tables || leb n 0x14 then getD operations n Unknown else Unknown
 
--- add, the calls on objects and status; 15 and 16, with a limit; list, result and word
+-- add, the calls on objects and status; 15 and 16, with a limit; 18; list, result and word
 abbrev pub usesK : ℕ → Bool
-usesK operation = eqb operation 0x01 || (leb 0x0a operation && leb operation 0x12) || eqb operation 0x15 || eqb operation 0x16 || eqb operation 0x1b || eqb operation 0x1d || eqb operation 0x1e
+usesK operation = eqb operation 0x01 || (leb 0x0a operation && leb operation 0x12) || eqb operation 0x15 || eqb operation 0x16 || eqb operation 0x18 || eqb operation 0x1b || eqb operation 0x1d || eqb operation 0x1e
 
--- add, switch, and 06 to 09: wait, reap, sleep, wake; 15 and 16; 1d to 1f: result, word, fresh
+-- add, switch, and 06 to 09: wait, reap, sleep, wake; 15, 16 and 18; 1d to 1f: result, word, fresh
 abbrev pub usesY : ℕ → Bool
-usesY operation = eqb operation 0x01 || eqb operation 0x04 || (leb 0x06 operation && leb operation 0x09) || eqb operation 0x15 || eqb operation 0x16 || (leb 0x1d operation && leb operation 0x1f)
+usesY operation = eqb operation 0x01 || eqb operation 0x04 || (leb 0x06 operation && leb operation 0x09) || eqb operation 0x15 || eqb operation 0x16 || eqb operation 0x18 || (leb 0x1d operation && leb operation 0x1f)
 
 abbrev pub kOf : Line → ℕ
 kOf l = byteAt l 1
@@ -74,19 +74,19 @@ kFits operation k = eqb k 0 || usesK operation
 unfoldable pub yFits : ℕ → ℕ → Bool
 yFits operation y = eqb y 0 || usesY operation
 
--- 1e: one of 4,096 words, which becomes 0 or the paint
-unfoldable pub wordFits : ℕ → ℕ → ℕ → Bool
-wordFits operation k y = not (eqb operation 0x1e) || (leb k 1 && leb y 4095)
+-- 18: y × 2^k for a k of at most 32; 1e: one of 4,096 words, which becomes 0 or the paint
+unfoldable pub inRange : ℕ → ℕ → ℕ → Bool
+inRange operation k y = (not (eqb operation 0x18) || leb k 32) && (not (eqb operation 0x1e) || (leb k 1 && leb y 4095))
 
 -- every operand fits; a line is malformed otherwise
 unfoldable pub operandsFit : ℕ → ℕ → ℕ → Bool
-operandsFit operation k y = every (kFits operation k ∷ yFits operation y ∷ wordFits operation k y ∷ [])
+operandsFit operation k y = every (kFits operation k ∷ yFits operation y ∷ inRange operation k y ∷ [])
 
 -- what stands for a line that is no frame
 abbrev pub malformed : Frame
 malformed = record { operation = Unknown; k = 0; y = 0 }
 
--- 12 lowercase hex digits: operation, k, y; any other line is malformed, one with an unused operand above 0 too, and 1e out of range
+-- 12 lowercase hex digits: operation, k, y; any other line is malformed, one with an unused operand above 0 too, and 18 or 1e out of range
 unfoldable pub frameOf : Bool → Line → Frame
 frameOf tables l =
     if not (isHex l) then malformed

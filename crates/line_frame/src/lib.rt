@@ -3,9 +3,9 @@ ghost use mathlib.Core.Path.{_≡_};
 ghost use mathlib.Core.Bool.{true};
 ghost use Prim.Native.Nat.{_+_, _*_, _<_};
 ghost use lib.ListN.{getD};
-ghost use Rattle.line_frame.specs.Frame.{emptyLine, digit, byteOf, byteAt, isHex, operations, operationOf, usesK, usesY, kFits, yFits, wordFits, yOf, operandsFit, malformed, frameOf};
+ghost use Rattle.line_frame.specs.Frame.{emptyLine, digit, byteOf, byteAt, isHex, operations, operationOf, usesK, usesY, kFits, yFits, inRange, yOf, operandsFit, malformed, frameOf};
 
-// The operations in the order of their numbers: 0x01 to 0x14, which `turns` has, and 0x15, 0x16 and 0x1b to 0x1f, which `tables` has too.
+// The operations in the order of their numbers: 0x01 to 0x14, which `turns` has, and 0x15, 0x16, 0x18 and 0x1b to 0x1f, which `tables` has too.
 pub enum Operation {
     Unknown,
     Add,
@@ -30,6 +30,7 @@ pub enum Operation {
     ReapOne,
     AcquireWithin,
     EventWaitWithin,
+    TicksToMs,
     List,
     CurrentId,
     Result,
@@ -61,7 +62,12 @@ const BYTES: u32 = 256;
 // The last operation of `turns`.
 const REAP_ONE: u32 = 0x14;
 
+const TICKS_TO_MS: u32 = 0x18;
+
 const WORD: u32 = 0x1e;
+
+// The largest power of two that ticks are written with.
+const LAST_POWER: u32 = 32;
 
 // The last word of the programs' arena.
 const LAST_WORD: u32 = 4095;
@@ -115,6 +121,7 @@ fn numbered(n: u32) -> Operation
         0x14 => Operation::ReapOne,
         0x15 => Operation::AcquireWithin,
         0x16 => Operation::EventWaitWithin,
+        0x18 => Operation::TicksToMs,
         0x1b => Operation::List,
         0x1c => Operation::CurrentId,
         0x1d => Operation::Result,
@@ -140,6 +147,7 @@ fn uses_k(operation: u32) -> bool
         | ((0x0a <= operation) & (operation <= 0x12))
         | (operation == 0x15)
         | (operation == 0x16)
+        | (operation == 0x18)
         | (operation == 0x1b)
         | (operation == 0x1d)
         | (operation == 0x1e)
@@ -153,6 +161,7 @@ fn uses_y(operation: u32) -> bool
         | ((0x06 <= operation) & (operation <= 0x09))
         | (operation == 0x15)
         | (operation == 0x16)
+        | (operation == 0x18)
         | ((0x1d <= operation) & (operation <= 0x1f))
 }
 
@@ -174,16 +183,23 @@ fn y_fits(operation: u32, y: u32) -> bool
     uses_y(operation)
 }
 
-fn word_fits(operation: u32, k: u32, y: u32) -> bool
-    ensures { λ r. ⌜ r ≡ wordFits operation k y ⌝ }
+// The operations below, those of `turns` among them, are done with at once.
+fn in_range(operation: u32, k: u32, y: u32) -> bool
+    ensures { λ r. ⌜ r ≡ inRange operation k y ⌝ }
 {
+    if operation < TICKS_TO_MS {
+        return true;
+    }
+    if operation == TICKS_TO_MS {
+        return k <= LAST_POWER;
+    }
     if operation != WORD {
         return true;
     }
     (k <= 1) & (y <= LAST_WORD)
 }
 
-// Whether each operand that the operation does not use is 0, and those of a word are in range.
+// Whether each operand that the operation does not use is 0, and those of ticks and of a word are in range.
 fn operands_fit(operation: u32, k: u32, y: u32) -> bool
     ensures { λ r. ⌜ r ≡ operandsFit operation k y ⌝ }
 {
@@ -193,7 +209,7 @@ fn operands_fit(operation: u32, k: u32, y: u32) -> bool
     if !y_fits(operation, y) {
         return false;
     }
-    word_fits(operation, k, y)
+    in_range(operation, k, y)
 }
 
 fn word(a: u32, b: u32, c: u32, d: u32) -> u32

@@ -122,7 +122,7 @@ fn write_help(tables: bool) {
     );
     if begun && write_calls() {
         let listed = written(
-            b"  15 acquire semaphore k   16 wait for event k, both for y ticks at most
+            b"  15 acquire semaphore k   16 wait for event k, both for y ticks at most   18 milliseconds from y * 2^k ticks
   1b list, k records lent   1c current id   1d result k, a signed byte, of id y   1f fresh, y hz
   1e no call: word y of the arena becomes 0, or for k 1 the paint
 ",

@@ -19,7 +19,7 @@ returns-2 c = rw (via _ _ _ (c .before .before .before .k-fits .ensures) (not-fa
 
 returns-3 : tie.Need-returns-3
 unfolding operandsFit every
-returns-3 c = rw (via _ _ _ (c .before .before .before .before .k-fits .ensures) (not-false _ (c .before .before .before .if1 .left)), via _ _ _ (c .before .before .y-fits .ensures) (not-false _ (c .before .if2 .left))) (c .word-fits .ensures ∙ sym (and-true _))
+returns-3 c = rw (via _ _ _ (c .before .before .before .before .k-fits .ensures) (not-false _ (c .before .before .before .if1 .left)), via _ _ _ (c .before .before .y-fits .ensures) (not-false _ (c .before .if2 .left))) (c .in-range .ensures ∙ sym (and-true _))
 
 pub operands-fit-spec : {M : Type 1} → statement M
 operands-fit-spec = tie.close (tie.spec (λ c κs. search needs) returns (λ c κs. search needs) returns-2 (λ c κs. search needs) returns-3)

@@ -55,6 +55,10 @@ returns-29 : tie.Need-returns-29
 unfolding if_then_else_
 returns-29 c = plain _ _ _ (c .before .enum-told28 .given .1) refl (c .other4 .ensures)
 
+returns-30 : tie.Need-returns-30
+unfolding if_then_else_
+returns-30 c = plain _ _ _ (c .before .enum-told29 .given .1) refl (c .other5 .ensures)
+
 pub dispatch-spec : {M : Type 1} → statement M
 dispatch-spec =
     tie.close
@@ -121,6 +125,8 @@ dispatch-spec =
     (λ c κs. search needs)
     (λ c. search needs)
     (λ c κs. search needs)
+    (λ c. search needs)
+    (λ c κs. search needs)
     returns
     (λ c. search needs)
     returns-2
@@ -157,4 +163,5 @@ dispatch-spec =
     (λ c. search needs)
     returns-27
     returns-28
-    returns-29)
+    returns-29
+    returns-30)

@@ -1,11 +1,11 @@
--- `other` meets its contract, by those of the four calls.
+-- `other` meets its contract, by those of the five calls.
 use mathlib.Core.Path.{refl, ap, _∙_}
 use mir.Facts.{toZ-ofZ}
 use mir.Syntax.{w32}
 use borrow.Author.Needs.{needs}
 use borrow.Author.Tests.{eq-eqb, ne-eqb}
 use Rattle.base.proofs.Choices.{taken, left}
-use Rattle.kernel.specs.Calls.{result, step}
+use Rattle.kernel.specs.Calls.{result, ticks-to-ms, step}
 use Rattle.line_dispatch.specs.Dispatch.{idOf}
 use Rattle.line_dispatch.proofs.internal.other.Statement.{statement}
 use Rattle.line_dispatch.proofs.internal.other.Tie as tie
@@ -27,9 +27,15 @@ returns-3 c =
 
 returns-4 : tie.Need-returns-4
 returns-4 c =
-    let a = c .before .before .before .before .args in
+    let a = c .before .before .before .before .before .args in
     c .wait-within .ensures
-    ∙ ap (step (a .k)) (left _ _ _ _ (ne-eqb (a .which) 0 (c .before .before .before .if1 .left)) (left _ _ _ _ (ne-eqb (a .which) 1 (c .before .before .if2 .left)) (left _ _ _ _ (ne-eqb (a .which) 2 (c .before .if3 .left)) refl)))
+    ∙ ap (step (a .k)) (left _ _ _ _ (ne-eqb (a .which) 0 (c .before .before .before .before .if1 .left)) (left _ _ _ _ (ne-eqb (a .which) 1 (c .before .before .before .if2 .left)) (left _ _ _ _ (ne-eqb (a .which) 2 (c .before .before .if3 .left)) (taken _ _ _ _ (eq-eqb (a .which) 3 (c .before .if4 .taken)) refl))))
+
+returns-5 : tie.Need-returns-5
+returns-5 c =
+    let a = c .before .before .before .before .before .before .args in
+    c .ticks-to-ms .ensures
+    ∙ ap (step (a .k)) (left _ _ _ _ (ne-eqb (a .which) 0 (c .before .before .before .before .before .if1 .left)) (left _ _ _ _ (ne-eqb (a .which) 1 (c .before .before .before .before .if2 .left)) (left _ _ _ _ (ne-eqb (a .which) 2 (c .before .before .before .if3 .left)) (left _ _ _ _ (ne-eqb (a .which) 3 (c .before .before .if4 .left)) (ap ticks-to-ms (c .before .ticks-of .ensures))))))
 
 pub other-spec : {M : Type 1} → statement M
 other-spec =
@@ -43,4 +49,7 @@ other-spec =
     (λ c κs. search needs)
     returns-3
     (λ c κs. search needs)
-    returns-4)
+    returns-4
+    (λ c κs. search needs)
+    (λ c κs. search needs)
+    returns-5)
