@@ -1,7 +1,6 @@
 -- The table of milliseconds holds: by the book's guarantee each case is answered with the quotient or with 23, and the quotients are computed.
-use Prim.Native.Nat.{ℕ, _*_, _/_, _≤_, _<_}
-use native.Mathlib.Omega.{arith}
-use mathlib.Core.Path.{_≡_, refl, sym, ap, _∙_}
+use Prim.Native.Nat.{ℕ, _*_, _/_}
+use mathlib.Core.Path.{_≡_, refl, _∙_}
 use mathlib.Core.Bool.{Bool, true, _&&_}
 use mathlib.Core.List.{List, [], _∷_, map}
 use lib.Dec.{eqb, ltb}
@@ -10,13 +9,13 @@ use Rattle.base.specs.Choice.{if_then_else_}
 use Rattle.base.proofs.Choices.{either, and-left, and-right}
 use Rattle.kernel.specs.declared.scheduler.Answer.{Answer}
 use Rattle.kernel.specs.declared.scheduler.Value.the-variants.{Milliseconds}
-use Rattle.kernel.specs.Kernel.{whole, arenaFits, freshKernel}
+use Rattle.kernel.specs.Kernel.{arenaFits, freshKernel}
 use Rattle.kernel.specs.Calls.{initNumber, accepted, refused, valueNumber}
 use Rattle.kernel.proofs.Whole.{whole-is}
 use Rattle.kernel.proofs.Owned.{fresh-sound}
 use Rattle.book_guarantees.specs.Milliseconds.{TicksToMs}
 use Rattle.book_guarantees.proofs.Milliseconds.{milliseconds-guarantee}
-use Rattle.book_exam.specs.Milliseconds.{Case, cases, answer, given, wanted, MillisecondsExam}
+use Rattle.book_exam.specs.Milliseconds.{Case, cases, answer, given, MillisecondsExam}
 
 -- an accepted fresh kernel with that hz
 fits : ℕ → Bool

@@ -13,7 +13,7 @@ use Rattle.kernel.specs.Timer.{msToTicks}
 use Rattle.kernel.specs.Calls.{ticks-to-ms, value, effect, accepted, refused, step, valueNumber}
 use Rattle.kernel.proofs.Step.{step-refused, step-accepted}
 use Rattle.kernel.proofs.Timer.{at-most-quotient, counts-within, ticks-to-ms-is, clocked, ms-past, ms-within}
-use Rattle.book_guarantees.specs.Milliseconds.{LargestMs, quotient, isAnswered, answer, TicksToMs, MillisecondsGuarantee}
+use Rattle.book_guarantees.specs.Milliseconds.{LargestMs, quotient, isAnswered, answer, MillisecondsGuarantee}
 
 module _ (k : Kernel) (w : whole k ≡ true) where
   largest : (t : ℕ) → LargestMs (k .hz) t (quotient k t)

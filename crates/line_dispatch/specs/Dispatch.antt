@@ -52,7 +52,7 @@ signedByte k = if ltb k 128 then pos k else negsuc (255 - k)
 unfoldable pub wordOf : ℕ → ℕ
 wordOf k = if eqb k 0 then 0 else paint
 
--- y × 2^k; no line writes a k above 32, which would count as 32
+-- y × 2^k; a line with k above 32 is malformed (`inRange`), and would count here as 32
 unfoldable pub ticksOf : ℕ → ℕ → ℕ
 ticksOf k y = y * 2 ^ min k 32
 

@@ -11,7 +11,7 @@ use line_frame::Frame;
 use line_frame::Operation;
 ghost use mathlib.Core.Path.{_≡_};
 ghost use mathlib.Core.Bool.{true, _||_, not};
-ghost use Prim.Native.Nat.{_+_, _≤_, min};
+ghost use Prim.Native.Nat.{_+_, _≤_};
 ghost use lib.Dec.{eqb};
 ghost use lib.ListN.{length, set};
 ghost use Rattle.base.specs.Choice.{if_then_else_};
@@ -38,19 +38,6 @@ fn word_of(k: u8) -> u32
     ensures { λ r. ⌜ r ≡ wordOf k ⌝ }
 {
     if k == 0 { 0 } else { TaskControl::STACK_MAGIC }
-}
-
-fn power(k: u8) -> u8
-    ensures { λ r. ⌜ r ≡ min k 32 ⌝ }
-{
-    if k < 32 { k } else { 32 }
-}
-
-// y × 2^k.
-fn ticks_of(k: u8, y: u32) -> u64
-    ensures { λ r. ⌜ r ≡ ticksOf k y ⌝ }
-{
-    (y as u64) << power(k)
 }
 
 fn set_word(arena: &mut [u32], at: usize, word: u32)
@@ -106,7 +93,11 @@ fn other(k: Kernel, which: u8, b: u8, y: u32) -> Answer
     if which == 3 {
         return call_event_wait::wait_within(k, object, ticks);
     }
-    call_timer::ticks_to_ms(k, ticks_of(b, y))
+    // Called from two places, which keeps its division out of the functions that start and switch are taken into.
+    if b < 32 {
+        return call_timer::ticks_to_ms(k, ticks << b);
+    }
+    call_timer::ticks_to_ms(k, ticks << 32)
 }
 
 // What the line adds to its answer is written into `out`, and `at` moves behind it.

@@ -66,8 +66,8 @@ const TICKS_TO_MS: u32 = 0x18;
 
 const WORD: u32 = 0x1e;
 
-// The largest power of two that ticks are written with.
-const LAST_POWER: u32 = 32;
+// Of the largest power of two that ticks are written with.
+const LAST_EXPONENT: u32 = 32;
 
 // The last word of the programs' arena.
 const LAST_WORD: u32 = 4095;
@@ -183,7 +183,7 @@ fn y_fits(operation: u32, y: u32) -> bool
     uses_y(operation)
 }
 
-// The operations below, those of `turns` among them, are done with at once.
+// An operation below 18, as each of `turns`, has no range.
 fn in_range(operation: u32, k: u32, y: u32) -> bool
     ensures { λ r. ⌜ r ≡ inRange operation k y ⌝ }
 {
@@ -191,7 +191,7 @@ fn in_range(operation: u32, k: u32, y: u32) -> bool
         return true;
     }
     if operation == TICKS_TO_MS {
-        return k <= LAST_POWER;
+        return k <= LAST_EXPONENT;
     }
     if operation != WORD {
         return true;
