@@ -2,7 +2,7 @@
 """What stands beside the lists of the compared domain. The exported pick is held against `next_task`, and `ms_to_ticks`, as sleep
 shows it in the tables, against the published one. Milliseconds from ticks, which the Rust has not (W-204), are the largest number whose
 ticks, by the published `ms_to_ticks`, are at most those. Each line of differences.txt is seen: what the Rust does there, and that
-`tables` refuses with that number and changes nothing or, for W-201, does what the line says.
+`tables` refuses with that number and changes nothing or, for W-201 and W-205, does what the line says.
 
   side.py REFERENCE TABLES PICK LIST
     REFERENCE   the program of tests/differential/build
@@ -134,7 +134,7 @@ def milliseconds(reference, program):
 def differences(reference, program):
     with open(os.path.join(os.path.dirname(os.path.abspath(__file__)), "differences.txt")) as file:
         rows = [line.rstrip("\n").split(" | ") for line in file if not line.startswith("#")]
-    refused = ruled = 0
+    refused, ruled = 0, {"W-201": 0, "W-205": 0}
     last = lambda printed: [printed[-2], printed[-1].partition(" | ")[0]]
     for number, words, answer, *slots in rows:
         lines, other = words.split(), slots[1:]
@@ -143,18 +143,18 @@ def differences(reference, program):
         got = got[-1:] if answer.startswith("panic: ") else last(got)
         if not got[0].startswith(answer) or got[1:] != slots[:1]:
             fail(f"differences: {words}: the Rust prints {got}")
-        if number == "W-201":
+        if number in ruled:
             got = last(said(program, given=given))
             if got != other or got[1] == slots[0]:
                 fail(f"differences: {words}: the code prints {got}")
-            ruled += 1
+            ruled[number] += 1
         elif "_" not in words:
             got = said(program, given="030000000000\n" * (len(lines) == 1) + given)
             if got[-2][:10] != number + "00000000" or got[-1] != got[-3]:
                 fail(f"differences: {words}: the code prints {got[-2:]}")
             refused += 1
     print(f"differences: {len(rows)} seen in the Rust; {refused} of their lists can be given to tables, which refuses each; "
-          f"{ruled} are W-201's, and tables follows it")
+          f"{ruled['W-201']} are W-201's and {ruled['W-205']} W-205's, and tables follows these")
 
 
 def main():

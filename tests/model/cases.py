@@ -1,8 +1,8 @@
 """The cases of tests/cases: lists from fresh with answers worked out by hand from documents 01, 02, 04 and 05. Each is held against
 the model and, where a call is in the compared domain, against the Rust; of other lines the reference has to say 01's number. At
-a release or signal that drops a head which is not Blocked it has to say W-201, at a wait with a limit W-202; from there on the list is
-held to the model alone. So are the lists of `late`, since no list brings the Rust to that tick. At milliseconds from ticks it has to
-say W-204; the call alters nothing, and the Rust plays the list without it.
+a release or signal that drops a head which is not Blocked it has to say W-201, at a wait with a limit W-202, at a lock after which a
+mutex has a queue W-205; from there on the list is held to the model alone. So are the lists of `late`, since no list brings the Rust to
+that tick. At milliseconds from ticks it has to say W-204; the call alters nothing, and the Rust plays the list without it.
 
   cases.py [DIR]    with DIR, also writes each list and what is printed for it: DIR/NAME.in and DIR/NAME.out for `turns`,
                     DIR/tables/NAME.in and DIR/tables/NAME.out for `tables`, DIR/late likewise
@@ -63,24 +63,32 @@ def added(*priorities, size=64):
 
 
 def table(slots, scheduler, mutexes=" ".join(["0,-,-,[];"] * 4), semaphores=" ".join(["0,[];"] * 4), events=" ".join(["0,[];"] * 4),
-          charges="0", limits={}):
-    """The line of `tables`; charges of the first slots, the others being 0; limits of those slots that have or had one."""
+          charges="0", limits={}, lent={}):
+    """The line of `tables`; charges of the first slots, the others being 0; limits of those slots that have or had one; the ranks of those
+    that are lent one, the others being the own numbers."""
     charges = charges.split(",")
     limits = ";".join(f"{slot},{limits.get(int(slot), '-,-,-,0')}" for slot in (text.partition(",")[0] for text in slots))
-    return " | ".join([";".join(slots), scheduler, mutexes, semaphores, events, ",".join(charges + ["0"] * (16 - len(charges))), limits])
+    own = {int(text.split(",")[0]): int(text.split(",")[3]) for text in slots}
+    return " | ".join([";".join(slots), scheduler, mutexes, semaphores, events, ",".join(charges + ["0"] * (16 - len(charges))), limits]) + ranks(
+        *[lent.get(slot, own.get(slot)) for slot in range(16)])
+
+
+def ranks(*first):
+    """The end of that line: the ranks of the first slots, `None` for an empty one; the others are empty."""
+    return " | " + ",".join("-" if rank is None else str(rank) for rank in [*first, *[None] * (16 - len(first))])
 
 
 READY, RUNNING, BLOCKED, SLEEPING, SUSPENDED, TERMINATED = range(6)
 
 
-def task(slot, state, left=True, id=None, wake=0, rest=5, owned=0, waiter="-"):
-    """A slot at 128 whose region is that of its number; left: its sp was stored by a switch."""
+def task(slot, state, left=True, id=None, wake=0, rest=5, owned=0, waiter="-", priority=128):
+    """A slot whose region is that of its number; left: its sp was stored by a switch."""
     end = 8192 + 64 * slot
-    return f"{slot},{id or slot},{state},128,{wake},5,{rest},{owned},{waiter},{end - 64},64,{end - 4 if left else end},0"
+    return f"{slot},{id or slot},{state},{priority},{wake},5,{rest},{owned},{waiter},{end - 64},64,{end - 4 if left else end},0"
 
 
-def idle(state, left=True):
-    return f"0,0,{state},255,0,1,1,0,-,0,8192,{8188 if left else 8192},0"
+def idle(state, left=True, owned=0):
+    return f"0,0,{state},255,0,1,1,{owned},-,0,8192,{8188 if left else 8192},0"
 
 
 def objects(**some):
@@ -279,6 +287,90 @@ turns("exit-with-a-sleeping-waiter",
       *added(128, 128, 128), (START, ok(1, 1)), (WAIT(2), ok(0, 1)), (SLEEP(9), ok(0, 1)), (switch(0), ok(2, 2)), (EXIT, ok(0, 2)),
       (status(0), ok(0, 2)), (switch(1), ok(3, 3)), (WAIT(2), ok(0, 3)), (switch(2), ok(2, 2)))
 
+# W-205: ranks. Task 1 at 200 has mutex 0; the others are added later, each better than the ones before, so that it is picked.
+
+def owner_of(k, priority=200):
+    """Task 1 at that number is current and has mutex k."""
+    return [(add(0, priority), ok(1, 0)), (START, ok(1, 1)), (LOCK(k), ok(1, 1))]
+
+
+turns("rank-of-the-log-task",
+      "The head task at 7 waits for the log task at 200, which is then picked before the feed at 128, until it unlocks (02, W-205)",
+      *owner_of(0), (add(1, 7), ok(2, 1)), (add(2, 128), ok(3, 1)), (switch(0), ok(2, 2)), (LOCK(0), ok(0, 2)),
+      (switch(1), ok(1, 1)), (switch(0), ok(1, 1)), (UNLOCK(0), ok(1, 1)), (switch(0), ok(2, 2)), (LOCK(0), ok(1, 2)), (BLOCK, ok(0, 2)),
+      (switch(1), ok(3, 3)))
+
+# 5 waits for 4, 4 for 3, 3 for 2, 2 for 1; unlocks take the links off one by one. At each pick 6 is Ready at 128.
+FOUR_LINKS = [
+    *owner_of(0), (add(1, 190), ok(2, 1)), (switch(0), ok(2, 2)), (LOCK(1), ok(1, 2)), (LOCK(0), ok(0, 2), ranks(255, 190, 190)),
+    (add(2, 180), ok(3, 2)), (switch(1), ok(3, 3)), (LOCK(2), ok(1, 3)), (LOCK(1), ok(0, 3), ranks(255, 180, 180, 180)),
+    (add(3, 170), ok(4, 3)), (switch(2), ok(4, 4)), (LOCK(3), ok(1, 4)), (LOCK(2), ok(0, 4), ranks(255, 170, 170, 170, 170)),
+    (add(4, 7), ok(5, 4)), (add(5, 128), ok(6, 4), ranks(255, 170, 170, 170, 170, 7, 128)), (switch(3), ok(5, 5)),
+    (LOCK(3), ok(0, 5), ranks(255, 7, 7, 7, 7, 7, 128)), (switch(4), ok(1, 1), ranks(255, 7, 7, 7, 7, 7, 128)),
+    (UNLOCK(0), ok(1, 1), ranks(255, 200, 7, 7, 7, 7, 128)), (switch(0), ok(2, 2)),
+    (UNLOCK(1), ok(1, 2), ranks(255, 200, 190, 7, 7, 7, 128)), (switch(1), ok(3, 3)),
+    (UNLOCK(2), ok(1, 3), ranks(255, 200, 190, 180, 7, 7, 128)), (switch(2), ok(4, 4)),
+    (UNLOCK(3), ok(1, 4), ranks(255, 200, 190, 180, 170, 7, 128)), (switch(3), ok(5, 5)), (BLOCK, ok(0, 5)), (switch(4), ok(6, 6))]
+
+turns("rank-through-four-links",
+      "Owners that wait themselves pass the rank on: picks by four links, by three, by two and by one, each before one at 128 (02, W-205; 05, 36)",
+      *[call[:2] for call in FOUR_LINKS])
+
+turns("rank-in-a-ring",
+      "1 and 2 wait for each other, 3 at 7 for 1; woken by hand 1 has 7 and is picked, Blocked again it passes 7 on, and 2, woken, has it (02, W-205)",
+      *owner_of(0), (add(1, 150), ok(2, 1)), (switch(0), ok(2, 2)), (LOCK(1), ok(1, 2)), (LOCK(0), ok(0, 2)), (switch(1), ok(1, 1)),
+      (LOCK(1), ok(0, 1)), (add(2, 7), ok(3, 1)), (switch(0), ok(3, 3)), (LOCK(0), ok(0, 3)), (add(3, 128), ok(4, 3)), (switch(2), ok(4, 4)),
+      (WAKE(1), ok(1, 4)), (switch(3), ok(1, 1)), (BLOCK, ok(0, 1)), (switch(0), ok(4, 4)), (WAKE(2), ok(1, 4)), (switch(3), ok(2, 2)))
+
+turns("rank-by-the-lowest-mutex",
+      "Queued at mutex 1 and then at 0, it lends to the owner of 0 alone; woken by its unlock and Blocked again, to the owner of 1 (02, W-205)",
+      *owner_of(0), (add(1, 190), ok(2, 1)), (switch(0), ok(2, 2)), (LOCK(1), ok(1, 2)), (add(2, 7), ok(3, 2)), (add(3, 128), ok(4, 2)),
+      (switch(1), ok(3, 3)), (LOCK(1), ok(0, 3)), (LOCK(0), ok(0, 3)), (switch(2), ok(1, 1)), (UNLOCK(0), ok(1, 1)), (switch(0), ok(3, 3)),
+      (BLOCK, ok(0, 3)), (switch(2), ok(2, 2)), (UNLOCK(1), ok(1, 2)), (switch(1), ok(3, 3)))
+
+# Task 2 ends while it is queued, is handed mutex 0 and reaped; id 4 in slot 3 waits at mutex 1 and then at 0.
+LOWEST_GONE = [
+    *owner_of(0), (add(1, 100), ok(2, 1)), (switch(0), ok(2, 2)), (LOCK(0), ok(0, 2), ranks(255, 100, 100)), (EXIT, ok(0, 2), ranks(255, 200, 100)),
+    (switch(1), ok(1, 1)), (UNLOCK(0), ok(1, 1)), (REAP(2), ok(0x2040, 1), ranks(255, 200)), (add(1, 190), ok(3, 1)), (switch(0), ok(2, 2)),
+    (LOCK(1), ok(1, 2)), (add(2, 7), ok(4, 2)), (add(3, 128), ok(5, 2)), (switch(1), ok(3, 3)), (LOCK(1), ok(0, 3), ranks(255, 200, 7, 7, 128)),
+    (LOCK(0), ok(0, 3), ranks(255, 200, 190, 7, 128)), (switch(2), ok(4, 4))]
+
+turns("rank-where-the-lowest-owner-is-gone",
+      "The lowest mutex's owner is gone: the link leads nowhere, and the owner of the next mutex is lent nothing (02, W-205; 05, 34)",
+      *[call[:2] for call in LOWEST_GONE])
+
+turns("rank-of-a-waiter-not-blocked",
+      "A waiter that is Ready, Sleeping or Suspended lends nothing though it is queued (02, W-205; 05, 32)",
+      *owner_of(0), (add(1, 7), ok(2, 1)), (add(2, 128), ok(3, 1)), (switch(0), ok(2, 2)), (LOCK(0), ok(0, 2)), (switch(1), ok(1, 1)),
+      (BLOCK, ok(0, 1)), (switch(0), ok(3, 3)),
+      # 1 Ready and lent 7 comes before 3; with 2 Ready too it has 200, and 2, behind it in the order from 3 on, is picked.
+      (WAKE(1), ok(1, 3)), (WAKE(2), ok(1, 3)), (switch(2), ok(2, 2)), (SLEEP(1), ok(0, 2)), (switch(1), ok(3, 3)), (TICK, ok(1, 3)),
+      (switch(2), ok(2, 2)), (status(4), ok(0, 2)), (switch(1), ok(3, 3)))
+
+turns("rank-of-a-waiter-blocked-elsewhere",
+      "Woken by hand, still queued and Blocked for another reason, it lends: event wait, acquire, wait, block, status Blocked (02, W-205; 05, 33)",
+      *owner_of(0), (add(1, 7), ok(2, 1)), (add(2, 128), ok(3, 1)), (switch(0), ok(2, 2)), (LOCK(0), ok(0, 2)), (WAKE(2), ok(1, 2)),
+      (switch(1), ok(2, 2)),
+      *[pair for blocks, wakes in ((EVENT_WAIT(0), SIGNAL(0)), (ACQUIRE(1), RELEASE(1)), (WAIT(3), WAKE(2)), (BLOCK, WAKE(2)), (status(2), WAKE(2)))
+        for pair in ((blocks, ok(0, 2)), (switch(1), ok(1, 1)), (wakes, ok(1, 1)), (switch(0), ok(2, 2)))])
+
+turns("rank-of-idle",
+      "Idle, with a mutex at which one at 128 waits, is picked before one at 200; once it has unlocked, after it (02, W-205; 05, 35)",
+      (START, ok(0, 0)), (LOCK(0), ok(1, 0)), (add(0, 128), ok(1, 0)), (add(1, 200), ok(2, 0)), (IDLE, ok(1, 1)), (LOCK(0), ok(0, 1)),
+      (switch(0), ok(0, 0)), (IDLE, ok(0, 0)), (UNLOCK(0), ok(1, 0)), (IDLE, ok(1, 1)), (BLOCK, ok(0, 1)), (switch(0), ok(2, 2)))
+
+turns("rank-equal-to-a-number",
+      "1 at 200, lent 128, and 3 at 128 take turns; after the unlock 2 and 3 do (02, W-205)",
+      *owner_of(0), (add(1, 128), ok(2, 1)), (add(2, 128), ok(3, 1)), (switch(0), ok(2, 2)), (LOCK(0), ok(0, 2)), (switch(1), ok(3, 3)),
+      (switch(2), ok(1, 1)), (switch(0), ok(3, 3)), (switch(2), ok(1, 1)), (UNLOCK(0), ok(1, 1)), (switch(0), ok(2, 2)), (switch(1), ok(3, 3)),
+      (switch(2), ok(2, 2)))
+
+turns("rank-of-the-next-owner",
+      "2 at 190 and 3 at 7 wait for 1; the unlock hands the mutex to 2, which is then lent 7 by 3, still queued, and picked before 128 (02, W-205)",
+      *owner_of(0), (add(1, 190), ok(2, 1)), (switch(0), ok(2, 2)), (LOCK(0), ok(0, 2)), (add(2, 7), ok(3, 2)), (add(3, 128), ok(4, 2)),
+      (switch(1), ok(3, 3)), (LOCK(0), ok(0, 3)), (switch(2), ok(1, 1)), (UNLOCK(0), ok(1, 1)), (switch(0), ok(2, 2)), (LOCK(0), ok(1, 2)),
+      (UNLOCK(0), ok(1, 2)), (switch(1), ok(3, 3)), (BLOCK, ok(0, 3)), (switch(2), ok(4, 4)))
+
 # Refusals
 
 turns("accepted-before-the-start",
@@ -328,12 +420,12 @@ tables("example", "Document 04's example as far as its operations are there; the
        *[(call, no(255, 1)) for call in ("170000000001", "190200000000")], ("150000000005", "000000000001"),
        *[(call, no(255, 1)) for call in ("1a0200000000", "1a0300000000")])
 
-tables("table-line", "Document 04's table, the first seven segments as printed there (04, the table line)",
+tables("table-line", "Document 04's table, the first eight segments as printed there (04, the table line)",
        ("018020000200", ok(1, 0)), ("010722000200", ok(2, 0)), (START, ok(2, 2)),
        ("160000000009", ok(0, 2),
         "0,0,0,255,0,1,1,0,-,0,8192,8192,0;1,1,0,128,0,5,5,0,-,8192,512,8704,0;2,2,2,7,0,5,5,0,-,8704,512,9216,0 | 0,1,2,3,3 | "
         "0,-,-,[]; 0,-,-,[]; 0,-,-,[]; 0,-,-,[]; | 0,[]; 0,[]; 0,[]; 0,[]; | 0,[2]; 0,[]; 0,[]; 0,[]; | 0,0,0,0,0,0,0,0,0,0,0,0,0,0,0,0 | "
-        "0,-,-,-,0;1,-,-,-,0;2,e,0,9,0"))
+        "0,-,-,-,0;1,-,-,-,0;2,e,0,9,0 | 255,128,7,-,-,-,-,-,-,-,-,-,-,-,-,-"))
 
 tables("table-of-objects", "Owners, a handoff, queues, counts, a waiter and a charge in the table (04, the table line)",
        *added(9, 9, 9), (START, ok(1, 1)), (LOCK(0), ok(1, 1)), (LOCK(1), ok(1, 1)), (switch(0), ok(2, 2)), (LOCK(0), ok(0, 2)),
@@ -726,6 +818,96 @@ tables("milliseconds-of-a-sleep",
              pair for ms, ticks, back in slept for after in [table([f"0,0,3,255,{ticks},1,1,0,-,0,8192,8192,0"], "0,1,0,1,1")]
              for pair in ((SLEEP(ms), ok(0, 0), after), (milliseconds(ticks), ok(back, 0), after))])])
 
+# W-205: the ranks in the table
+
+tables("ranks-of-the-log-task",
+       "As in rank-of-the-log-task: the log task has rank 7, and the Priority 200 in the slots and in the list call too (02, W-205; 05, 31)",
+       *owner_of(0), (add(1, 7), ok(2, 1)), (add(2, 128), ok(3, 1), ranks(255, 200, 7, 128)), (switch(0), ok(2, 2)),
+       (LOCK(0), ok(0, 2),
+        table([UNTOUCHED, task(1, READY, owned=1, priority=200), task(2, BLOCKED, left=False, priority=7), task(3, READY, left=False)],
+              "0,1,2,4,4", mutexes("1,1,-,[2]"), lent={1: 7})),
+       (records(4), ok(4, 2, "0,0,255,0,8192;1,0,200,0,64;2,2,7,0,64;3,0,128,0,64")), (switch(1), ok(1, 1)),
+       (UNLOCK(0), ok(1, 1),
+        table([UNTOUCHED, task(1, RUNNING, priority=200), task(2, READY, owned=1, priority=7), task(3, READY, left=False)],
+              "0,1,1,4,4", mutexes("1,2,2,[]"))))
+
+tables("ranks-through-four-links", "The list rank-through-four-links, with the ranks of each stage (02, W-205; 05, 36)", *FOUR_LINKS)
+
+tables("ranks-in-a-ring-of-two", "1 and 2 wait for each other: both have the smaller number; 3 at 7 waits for 1: all have 7 (02, W-205)",
+       *owner_of(0), (add(1, 150), ok(2, 1)), (switch(0), ok(2, 2)), (LOCK(1), ok(1, 2)), (LOCK(0), ok(0, 2), ranks(255, 150, 150)),
+       (switch(1), ok(1, 1)), (LOCK(1), ok(0, 1), ranks(255, 150, 150)), (add(2, 7), ok(3, 1), ranks(255, 150, 150, 7)), (switch(0), ok(3, 3)),
+       (LOCK(0), ok(0, 3), ranks(255, 7, 7, 7)), (switch(2), ok(0, 0)), (WAKE(1), ok(1, 0), ranks(255, 7, 150, 7)),
+       (WAKE(2), ok(1, 0), ranks(255, 7, 150, 7)), (WAKE(3), ok(1, 0), ranks(255, 200, 150, 7)))
+
+# Each of 1 to 4 has the mutex of its place and sleeps; awake, 4 waits for 1, 2 for 3, 3 for 4, and 1 for 2 before them.
+tables("ranks-in-a-ring-of-four",
+       "1 to 4 wait for each other in a ring; while it is made, a task lent 10 comes before one at 20; 5 at 5 waits outside (02, W-205)",
+       *added(40, 30, 20, 10), (START, ok(4, 4)), (LOCK(3), ok(1, 4)), (SLEEP(1), ok(0, 4)), (switch(3), ok(3, 3)), (LOCK(2), ok(1, 3)),
+       (SLEEP(1), ok(0, 3)), (switch(2), ok(2, 2)), (LOCK(1), ok(1, 2)), (SLEEP(1), ok(0, 2)), (switch(1), ok(1, 1)), (LOCK(0), ok(1, 1)),
+       (LOCK(1), ok(0, 1), ranks(255, 40, 30, 20, 10)), (switch(0), ok(0, 0)), (TICK, ok(1, 0)), (IDLE, ok(4, 4)),
+       (LOCK(0), ok(0, 4), ranks(255, 10, 10, 20, 10)), (switch(3), ok(2, 2)), (LOCK(2), ok(0, 2), ranks(255, 10, 10, 10, 10)), (switch(1), ok(3, 3)),
+       (LOCK(3), ok(0, 3), ranks(255, 10, 10, 10, 10)), (switch(2), ok(0, 0)), (add(4, 5), ok(5, 0), ranks(255, 10, 10, 10, 10, 5)), (IDLE, ok(5, 5)),
+       (LOCK(2), ok(0, 5), ranks(255, 5, 5, 5, 5, 5)), (switch(4), ok(0, 0)), (WAKE(4), ok(1, 0), ranks(255, 40, 30, 5, 5, 5)))
+
+tables("ranks-in-a-ring-of-three", "A ring of three, one outside that waits for it, and one that waits for that one (02, W-205)",
+       *added(40, 30, 20), (START, ok(3, 3)), (LOCK(2), ok(1, 3)), (SLEEP(1), ok(0, 3)), (switch(2), ok(2, 2)), (LOCK(1), ok(1, 2)),
+       (SLEEP(1), ok(0, 2)), (switch(1), ok(1, 1)), (LOCK(0), ok(1, 1)), (LOCK(1), ok(0, 1), ranks(255, 40, 30, 20)), (switch(0), ok(0, 0)),
+       (TICK, ok(1, 0)), (IDLE, ok(3, 3)), (LOCK(0), ok(0, 3), ranks(255, 20, 20, 20)), (switch(2), ok(2, 2)),
+       (LOCK(2), ok(0, 2), ranks(255, 20, 20, 20)), (add(3, 100), ok(4, 2)), (switch(1), ok(4, 4)), (LOCK(3), ok(1, 4)),
+       (LOCK(0), ok(0, 4), ranks(255, 20, 20, 20, 100)), (add(4, 5), ok(5, 4)), (switch(3), ok(5, 5)), (LOCK(3), ok(0, 5), ranks(255, 5, 5, 5, 5, 5)))
+
+tables("ranks-by-the-lowest-of-four",
+       "Queued at mutex 3, then at 2, 1 and 0 too, it lends to the owner of the lowest; up, to none; Blocked again, to the next (02, W-205; 05, 33)",
+       *added(200, 200, 200, 200), (START, ok(1, 1)), (LOCK(0), ok(1, 1)), (switch(0), ok(2, 2)), (LOCK(1), ok(1, 2)), (switch(1), ok(3, 3)),
+       (LOCK(2), ok(1, 3)), (switch(2), ok(4, 4)), (LOCK(3), ok(1, 4)), (add(4, 7), ok(5, 4)), (switch(3), ok(5, 5)),
+       (LOCK(3), ok(0, 5), ranks(255, 200, 200, 200, 7, 7)), (LOCK(2), ok(0, 5), ranks(255, 200, 200, 7, 200, 7)),
+       (LOCK(1), ok(0, 5), ranks(255, 200, 7, 200, 200, 7)), (LOCK(0), ok(0, 5), ranks(255, 7, 200, 200, 200, 7)), (switch(4), ok(1, 1)),
+       (UNLOCK(0), ok(1, 1), ranks(255, 200, 200, 200, 200, 7)), (switch(0), ok(5, 5)), (BLOCK, ok(0, 5), ranks(255, 200, 7, 200, 200, 7)),
+       (switch(4), ok(2, 2)), (UNLOCK(1), ok(1, 2), ranks(255, 200, 200, 200, 200, 7)), (switch(1), ok(5, 5)),
+       (EVENT_WAIT(0), ok(0, 5), ranks(255, 200, 200, 7, 200, 7)))
+
+tables("ranks-where-the-lowest-owner-is-gone",
+       "The list rank-where-the-lowest-owner-is-gone: a waiter that has ended lends nothing, an emptied slot has no rank (02, W-205; 05, 34)",
+       *LOWEST_GONE)
+
+tables("ranks-of-owners-not-blocked",
+       "2, queued at mutex 0, has mutex 1, where 3 at 7 waits: Sleeping, Ready, Running or Suspended it has 7 and passes nothing on (02, W-205; 05, 32)",
+       *owner_of(0), (add(1, 150), ok(2, 1)), (switch(0), ok(2, 2)), (LOCK(1), ok(1, 2)), (LOCK(0), ok(0, 2), ranks(255, 150, 150)),
+       (SLEEP(2), ok(0, 2), ranks(255, 200, 150)), (add(2, 7), ok(3, 2)), (switch(1), ok(3, 3)),
+       (LOCK(1), ok(0, 3),
+        table([UNTOUCHED, task(1, READY, owned=1, priority=200), task(2, SLEEPING, wake=2, owned=1, priority=150),
+               task(3, BLOCKED, left=False, priority=7)], "0,1,3,4,4", "1,1,-,[2]; 1,2,-,[3]; 0,-,-,[]; 0,-,-,[];", lent={2: 7})),
+       (switch(2), ok(1, 1)), (TICK, ok(0, 1), ranks(255, 200, 7, 7)), (TICK, ok(1, 1), ranks(255, 200, 7, 7)),
+       (switch(0), ok(2, 2), ranks(255, 200, 7, 7)), (status(4), ok(0, 2), ranks(255, 200, 7, 7)), (status(2), ok(0, 2), ranks(255, 7, 7, 7)),
+       (switch(1), ok(1, 1)), (UNLOCK(0), ok(1, 1), ranks(255, 200, 7, 7)))
+
+tables("ranks-of-an-owner-that-has-ended",
+       "2 ends while it is queued at mutexes 0 and 1 and is handed 0: lent 7 by 3, it passes nothing on; reaped, 3 lends to none (02, W-205; 05, 32)",
+       *owner_of(0), (LOCK(1), ok(1, 1)), (add(1, 100), ok(2, 1)), (switch(0), ok(2, 2)), (LOCK(0), ok(0, 2), ranks(255, 100, 100)),
+       (LOCK(1), ok(0, 2)), (EXIT, ok(0, 2), ranks(255, 200, 100)), (switch(1), ok(1, 1)), (UNLOCK(0), ok(1, 1), ranks(255, 200, 100)), (add(2, 7), ok(3, 1)),
+       (switch(0), ok(3, 3)),
+       (LOCK(0), ok(0, 3),
+        table([UNTOUCHED, task(1, READY, owned=1, priority=200), task(2, TERMINATED, rest=0, owned=1, priority=100),
+               task(3, BLOCKED, left=False, priority=7)], "0,1,3,4,4", "1,2,2,[3]; 1,1,-,[2]; 0,-,-,[]; 0,-,-,[];", lent={2: 7})),
+       (records(4), ok(4, 3, "0,0,255,0,8192;1,0,200,0,64;2,5,100,0,64;3,2,7,0,64")), (switch(2), ok(1, 1)),
+       (REAP(2), ok(0x2040, 1), ranks(255, 200, None, 7)))
+
+tables("ranks-with-idle-in-the-middle",
+       "Idle, queued, lends 255; it passes 128 on while it is Blocked; picked since none is Ready, it has 128 and passes nothing on (02, W-205; 05, 35, 37)",
+       (START, ok(0, 0)), (LOCK(0), ok(1, 0)), (add(0, 200), ok(1, 0)), (IDLE, ok(1, 1)), (LOCK(1), ok(1, 1)), (SLEEP(3), ok(0, 1)),
+       (switch(0), ok(0, 0)), (LOCK(1), ok(0, 0), ranks(255, 200)), (add(1, 128), ok(2, 0)), (IDLE, ok(2, 2)),
+       (LOCK(0), ok(0, 2),
+        table([idle(BLOCKED, owned=1), task(1, SLEEPING, wake=3, owned=1, priority=200), task(2, BLOCKED, left=False)], "0,1,2,3,3",
+              "1,0,-,[2]; 1,1,-,[0]; 0,-,-,[]; 0,-,-,[];", lent={0: 128, 1: 128})),
+       (switch(1), ok(0, 0), ranks(128, 200, 128)), (LOCK(1), ok(0, 0), ranks(128, 128, 128)), *[(TICK, ok(1, 0))] * 3, (IDLE, ok(1, 1)),
+       (UNLOCK(1), ok(1, 1), ranks(128, 200, 128)), (switch(0), ok(0, 0)), (UNLOCK(0), ok(1, 0), ranks(255, 200, 128)), (IDLE, ok(2, 2)))
+
+tables("ranks-when-a-limit-ends",
+       "2, queued at mutex 0, waits elsewhere with a limit and lends; its tick makes it Ready, and 1 has its own number again (02, W-202, W-205)",
+       *owner_of(0), (add(1, 7), ok(2, 1)), (switch(0), ok(2, 2)), (LOCK(0), ok(0, 2), ranks(255, 7, 7)), (WAKE(2), ok(1, 2), ranks(255, 200, 7)),
+       (ACQUIRE_WITHIN(0, 2), ok(0, 2), ranks(255, 7, 7)), (switch(1), ok(1, 1)), (TICK, ok(0, 1), ranks(255, 7, 7)),
+       (TICK, ok(1, 1), ranks(255, 200, 7)), (switch(0), ok(2, 2)))
+
 # Current id and result
 
 tables("current-id", "2 before the start; then the id of the task in slot current, which is not the slot (01, state calls; 04)",
@@ -869,8 +1051,8 @@ def played(program, lines):
 
 
 def compared(program, lines):
-    """How many calls there are before the first wait with a limit or the first that drops a head which is not Blocked, and what is
-    the yardstick from there on."""
+    """How many calls there are before the first wait with a limit, the first that drops a head which is not Blocked or the first after
+    which a mutex has a queue, and what is the yardstick from there on."""
     machine = model.Machine(program == "tables")
     for at, call in enumerate(lines):
         op = machine.step(call.encode())[0]
@@ -878,6 +1060,8 @@ def compared(program, lines):
             return at, "W-202"
         if any(state != model.BLOCKED for state in machine.kernel.dropped):
             return at, "W-201"
+        if any(mutex.queue for mutex in machine.kernel.mutexes):
+            return at, "W-205"
     return len(lines), None
 
 
@@ -901,7 +1085,10 @@ def check(program, name, calls):
     (end, request), asked, mine = compared(program, lines) if program != "late" else (-1, None), [], []
     for at, (call, answer, *after) in enumerate(calls):
         assert answers[at] == answer, (name, at, call, answers[at], answer)
-        assert not after or printed[2 * at + 1] == after[0], (name, at, call, printed[2 * at + 1], after[0])
+        for want in after:
+            # The whole table, or its end.
+            same = printed[2 * at + 1].endswith(want) if want.startswith(" | ") else printed[2 * at + 1] == want
+            assert same, (name, at, call, printed[2 * at + 1], want)
         if at >= end:
             assert at > end or replayed(asked, call) == request, (name, at, call)
         elif program == "tables" and call[:2] == "18" and answer[:2] != "ff":

@@ -1,7 +1,8 @@
 #!/usr/bin/env python3
 """Random lists for `turns` or `tables` that meet every refusal that a list from fresh can meet there, with malformed lines; lists
-in which release or signal drops up to eight heads; and for `tables` lists in which limits end: out of queues of up to eight by
-their own ticks, and in every other way; and lists with the milliseconds of ticks, at many rates.
+in which release or signal drops up to eight heads; lists with chains of one to four links from waiter to owner and rings of two to
+four; and for `tables` lists in which limits end: out of queues of up to eight by their own ticks, and in every other way; and lists with
+the milliseconds of ticks, at many rates.
 
   frames.py SEED LINES MALFORMED LISTS turns|tables PROGRAM [ARG..]
         LISTS lists of LINES lines, from SEED on, MALFORMED of them malformed (0.03 is 3 in 100), and ten times as many of
@@ -64,6 +65,8 @@ def operation():
         return rng.choice([1, 1, 3, 4, 4, 4, 5, 5, 6, 6, 7, 7, 9, 0x14, 0x12])
     if mood == "mutex":
         return rng.choice([3, 4, 4, 4, 5, 9, 0xa, 0xa, 0xa, 0xb, 0xb, 0xb, 0xc])
+    if mood == "chains":
+        return rng.choice([4, 4, 4, 4, 9, 9, 9, 0xa, 0xa, 0xa, 0xa, 0xa, 0xb, 0xb, 0x13, 8, 0x12, 5, 7, 3, 0x10, 0x11])
     if mood == "words":
         return rng.choice([1, 3, 4, 4, 4, 4, 5, 7, 9, 0x14])
     return rng.randrange(0x01, 0x17 if machine.operations is model.TABLES else 0x15)
@@ -106,7 +109,7 @@ def frame():
     elif op == 8:
         y = rng.choice([0, 1, 1, 2, 3, 10, 0xffffffff])
     elif 0xa <= op <= 0x11 or op in (0x15, 0x16):
-        a = 0 if mood in ("crowd", "heads") else rng.choice([0, 0, 0, 1, 2, 3])
+        a = 0 if mood in ("crowd", "heads") else rng.randrange(4) if mood == "chains" else rng.choice([0, 0, 0, 1, 2, 3])
         if rng.random() < .02:
             a = rng.choice([4, 5, 128, 255])
         if op > 0x11:
@@ -128,7 +131,7 @@ def make(seed, lines, share, tables):
     rng, machine, mood, what, out = random.Random(seed), model.Machine(tables), "any", 0xd, []
     for n in range(lines):
         if rng.random() < .02:
-            mood = rng.choice(["any", "any", "crowd", "heads", "life", "mutex"] + ["words", "limits", "limits"] * tables)
+            mood = rng.choice(["any", "any", "crowd", "heads", "life", "mutex", "chains"] + ["words", "limits", "limits"] * tables)
             what = rng.choice([*DROPS, *WITHIN.values()] if tables and mood == "crowd" else [*DROPS])
         if rng.random() < share:
             line = malformed()
@@ -278,6 +281,14 @@ def limits(seed, tick=0):
             call(op, rng.choice([k, k, rng.randrange(4)]))
         else:
             call(op)
+    # Some end and are reaped, and others get their slots.
+    for _ in range(3):
+        switch()
+        call(5)
+    switch()
+    for _ in range(3):
+        call(0x14)
+        call(1, 8, (8192 + 16 * rng.randrange(worse + tasks + 1)) << 16 | 16)
     return b"\n".join(out)
 
 
@@ -330,6 +341,164 @@ def queues(seed):
     return b"\n".join(out)
 
 
+# Shapes of chains: how many tasks of a ring, none for no ring; how many links lead to it or, without one, there are.
+SHAPES = [(0, 1), (0, 2), (0, 3), (0, 4), (2, 0), (2, 1), (2, 2), (2, 3), (3, 0), (3, 1), (3, 2), (4, 0), (4, 1)]
+# How many mutexes one waits at, and whether the owner of the lowest is gone.
+SEVERAL = [(count, gone) for count in (2, 3, 4) for gone in (False, True)]
+
+
+def chains(seed):
+    """A list, as bytes: by the seed each in turn of SHAPES, of SEVERAL, an owner that has ended, and fifteen tasks that wait at any mutexes,
+    each with tasks in any slots and at any numbers, idle among them or not. Then up to two of the tasks are brought up, put to sleep,
+    suspended or Blocked for another reason, others stand by, and calls of all kinds that alter ranks follow."""
+    rng, machine, out = random.Random(seed), model.Machine(True), []
+    kernel, mutexes = machine.kernel, rng.sample(range(4), 4)
+    palette = rng.choice([[7, 128, 200], [7, 8, 9, 100, 128, 200, 254, 255], [*range(256)]])
+
+    def call(op, k=0, y=0):
+        out.append(f"{op:02x}{k:02x}{y:08x}".encode())
+        machine.step(out[-1])
+
+    def switch():
+        call(4, 0, kernel.own().start)
+
+    def brought_up(at):
+        """Whether that slot is current and Running: those that come first block."""
+        for _ in range(40):
+            if kernel.current == at and kernel.own().state == model.RUNNING:
+                return True
+            if kernel.slots[at] is None or kernel.slots[at].state not in (model.READY, model.BLOCKED, model.RUNNING):
+                return False
+            if kernel.slots[at].state == model.BLOCKED:
+                call(9, 0, kernel.slots[at].id)
+            if kernel.current != at and kernel.own().state == model.RUNNING:
+                call(0x13)
+            switch()
+        return False
+
+    def locks(at, *which):
+        if brought_up(at):
+            for k in which:
+                call(0xa, k)
+
+    def waits(pairs):
+        """Each of these slots takes its mutex, if it has one; then each waits, in any order."""
+        for at, own, _ in pairs:
+            if own is not None:
+                locks(at, own)
+        for at, _, wanted in rng.sample(pairs, len(pairs)):
+            if wanted is not None:
+                locks(at, wanted)
+
+    def ended_owner(at, k, other, more=()):
+        """Ends while it waits there and at more, is handed that mutex by the other one, and is still there."""
+        locks(other, k)
+        locks(at, k, *more)
+        call(5)
+        locks(other)
+        call(0xb, k)
+
+    kind = seed % (len(SHAPES) + len(SEVERAL) + 3)
+    knot = kind == len(SHAPES) + len(SEVERAL) + 2
+    count = 15 if knot else rng.randrange(6, 10)
+    if rng.random() < .4:
+        # One that ends and is reaped: ids are no slots then.
+        for first in ((1, 0, 8192 << 16 | 16), (2,), (5,)):
+            call(*first)
+        switch()
+        call(0x14)
+    for at in range(count):
+        call(1, rng.choice(palette), (8192 + 16 * at) << 16 | 16)
+    call(2)
+    slots = rng.sample(range(1, count + 1), count)
+    if rng.random() < .5:
+        slots[rng.randrange(4)] = 0
+    if knot:
+        for at in slots:
+            locks(at, *rng.sample(range(4), rng.randrange(1, 5)))
+    elif kind < len(SHAPES):
+        ring, links = SHAPES[kind]
+        members = ring + links + (ring == 0)
+        in_order = ring == 0 and rng.random() < .6
+        if in_order:
+            # The best one waits at the far end, and the next best one stands by.
+            slots.sort(key=lambda at: -kernel.slots[at].priority)
+            slots[members - 1:] = [slots[-1], slots[-2], *slots[members - 1:-2]]
+        owns = [mutexes[n] if n < members - (links > 0) else None for n in range(members)]
+        wants = [owns[(n + 1) % ring] if n < ring else owns[rng.randrange(ring)] if ring and n == ring else owns[n - 1] if n else None
+                 for n in range(members)]
+        waits([*zip(slots, owns, wants)])
+        if in_order:
+            for at in (slots[0], slots[members]):
+                call(9, 0, kernel.slots[at].id)
+            switch()
+    elif kind < len(SHAPES) + len(SEVERAL):
+        several, gone = SEVERAL[kind - len(SHAPES)]
+        which = sorted(mutexes[:several])
+        if gone:
+            if slots[5] == 0:
+                slots[5], slots[4] = slots[4], slots[5]
+            ended_owner(slots[5], which[0], slots[4])
+            switch()
+            call(7, 0, kernel.slots[slots[5]].id)
+        for n, k in enumerate(which[gone:]):
+            locks(slots[n % rng.randrange(1, 5)], k)
+        locks(slots[4], *rng.sample(which, several))
+    else:
+        # The owner that has ended is queued elsewhere too, or not.
+        if slots[0] == 0:
+            slots[0], slots[4] = slots[4], slots[0]
+        more = mutexes[1:1 + kind % 2]
+        for k in more:
+            locks(slots[2], k)
+        ended_owner(slots[0], mutexes[0], slots[1], more)
+        locks(slots[3], mutexes[0])
+    for at in rng.sample(slots, rng.randrange(3)):
+        if brought_up(at):
+            call(*rng.choice([(8, 0, rng.randrange(1, 5)), (0x12, 4), (0x12, 3), (0x12, 2), (0x12, 0), (0x10, 0), (0xd, 0), (0x13,),
+                              (6, 0, rng.randrange(4)), (3,)]))
+    if rng.random() < .3:
+        # All block, and idle is picked, Blocked too or not.
+        while model.READY in kernel.states() or kernel.own().state == model.RUNNING and kernel.current != 0:
+            if kernel.own().state == model.RUNNING:
+                call(0x13)
+            switch()
+        if rng.random() < .7:
+            call(0x13)
+        switch()
+    for at in slots:
+        if rng.random() < .4 and kernel.slots[at] is not None:
+            call(9, 0, kernel.slots[at].id)
+    for _ in range(rng.randrange(5, 40)):
+        op = rng.choice([4] * 8 + [9] * 4 + [0xa] * 4 + [0xb] * 3 + [1, 3, 3, 5, 5, 6, 7, 7, 8, 8, 0xc, 0xd, 0xd, 0xf, 0xf, 0x10, 0x10, 0x11,
+                                                                     0x11, 0x12, 0x12, 0x13, 0x13, 0x14, 0x15, 0x16, 0x1b])
+        present = [task for task in kernel.slots if task is not None]
+        owned = [k for k in range(4) if kernel.mutexes[k].owner == kernel.own().id]
+        if op == 4:
+            switch()
+        elif op == 9:
+            call(op, 0, rng.choice([task.id for task in present if task.state == model.BLOCKED] or [0]))
+        elif op == 1:
+            call(op, rng.choice(palette), (8192 + 16 * rng.randrange(count)) << 16 | 16)
+        elif op in (6, 7):
+            call(op, 0, rng.choice([task.id for task in present if op == 6 or task.state == model.TERMINATED] or [0]))
+        elif op == 8:
+            call(op, 0, rng.randrange(4))
+        elif op == 0xb:
+            call(op, rng.choice(owned or [0]))
+        elif op == 0x12:
+            call(op, rng.choice([0, 2, 3, 4]))
+        elif op == 0x1b:
+            call(op, 16)
+        elif op in (0x15, 0x16):
+            call(op, rng.randrange(2), rng.randrange(1, 4))
+        elif 0xa <= op <= 0x11:
+            call(op, rng.randrange(4) if op == 0xa else rng.choice([0, 0, 1]))
+        else:
+            call(op)
+    return b"\n".join(out)
+
+
 def some_ticks(rng, hz):
     """Operands k and y of 18, which takes y * 2^k ticks: where a millisecond is full, where 23 begins, where 1000 times the ticks passes
     2^64 or a multiple of it, or is one; few or any ticks. Exactly these, or the nearest that k allows; at times k is too large."""
@@ -367,6 +536,6 @@ if __name__ == "__main__":
         sys.exit(__doc__)
     first, lines, share, lists = int(sys.argv[1]), int(sys.argv[2]), float(sys.argv[3]), int(sys.argv[4])
     made = [make(seed, lines, share, sys.argv[5] == "tables") for seed in range(first, first + lists)]
-    made += [queues(seed) for seed in range(first, first + 10 * lists)]
+    made += [kind(seed) for kind in (queues, chains) for seed in range(first, first + 10 * lists)]
     made += [kind(seed) for kind in (limits, ended, times) for seed in range(first, first + 10 * lists) if sys.argv[5] == "tables"]
     against.compare(made, sys.argv[5], sys.argv[6:])

@@ -1,17 +1,18 @@
 #!/usr/bin/env python3
-"""A model of document 01's step with document 02's W-201, W-202 and W-204, following the words of documents 01 to 05. Its author had
-read the published Rust too.
+"""A model of document 01's step with document 02's W-201, W-202, W-204 and W-205, following the words of documents 01 to 05. Its author
+had read the published Rust too.
 
   model.py turns    standard input as `turns` reads it; prints what `turns` prints
   model.py tables   the same for `tables`, which has operations of its own: after each answer the table
-  model.py replay   lists of `tables` parted by `new`; prints as the reference does: tables without charges and limits,
-                    the values of wake, release and signal as 0
+  model.py replay   lists of `tables` parted by `new`; prints as the reference does: tables without charges, limits
+                    and ranks, the values of wake, release and signal as 0
 
 Every refusal that a list from fresh can meet is there, and those that only other kernels can meet (6, 15, 18, 19) too."""
 import sys
+from collections import Counter
 
 READY, RUNNING, BLOCKED, SLEEPING, SUSPENDED, TERMINATED, EMPTY = range(7)
-SLOTS, OBJECTS, PLACES, SLICE = 16, 4, 8, 5
+SLOTS, OBJECTS, PLACES, SLICE, LINKS = 16, 4, 8, 5, 16
 PAINT = 0xDEADBEEF
 U32 = 0xFFFFFFFF
 U64 = 0xFFFFFFFFFFFFFFFF
@@ -38,17 +39,17 @@ def ticks_to_ms(hz, ticks):
     return fits
 
 
-def pick(states, priorities, current):
-    """next_task over 16 states (EMPTY for an empty slot) and 16 priorities."""
+def pick(states, ranks, current):
+    """next_task over 16 states (EMPTY for an empty slot) and 16 ranks, which of an empty slot are not read."""
     best = None
     for at in range(SLOTS):
-        if states[at] == READY and (best is None or priorities[at] < best):
-            best = priorities[at]
+        if states[at] == READY and (best is None or ranks[at] < best):
+            best = ranks[at]
     if best is None:
         return 0
     for step in range(1, SLOTS + 1):
         at = (current + step) % SLOTS
-        if states[at] == READY and priorities[at] == best:
+        if states[at] == READY and ranks[at] == best:
             return at
     raise AssertionError
 
@@ -178,10 +179,43 @@ class Kernel:
     def would_overflow(self, queue):
         return len(queue) == PLACES and self.own().id not in queue
 
+    def states(self):
+        return [EMPTY if task is None else task.state for task in self.slots]
+
+    def mutexes_of(self, at):
+        """The numbers of the mutexes at which the task in that slot is queued, smallest first."""
+        return [k for k, mutex in enumerate(self.mutexes) if self.slots[at].id in mutex.queue]
+
+    def link(self, at):
+        """The slot to which the link of the task in that slot leads, or None: a Blocked task's to the owner of the lowest mutex at which
+        it is queued, if that owner is a present task."""
+        queued = self.mutexes_of(at)
+        if self.slots[at].state != BLOCKED or not queued:
+            return None
+        owner = self.mutexes[queued[0]].owner
+        return None if owner is None else self.find(owner)
+
+    def chain(self, at):
+        """The slots to which a chain leads from that one, in its order: from owner to owner, at most sixteen links, and a ring ends
+        where it meets itself."""
+        reached, to = [], self.link(at)
+        while to is not None and to not in reached and len(reached) < LINKS:
+            reached.append(to)
+            to = self.link(to)
+        return reached
+
+    def ranks(self):
+        """The smallest own number among the task itself and all present Blocked tasks from which a chain leads to it; None for an
+        empty slot."""
+        ranks = [None if task is None else task.priority for task in self.slots]
+        for at, task in enumerate(self.slots):
+            if task is not None and task.state == BLOCKED:
+                for to in self.chain(at):
+                    ranks[to] = min(ranks[to], task.priority)
+        return ranks
+
     def next_task(self):
-        states = [EMPTY if task is None else task.state for task in self.slots]
-        return pick(states, [0 if task is None else task.priority for task in self.slots],
-                    self.current)
+        return pick(self.states(), self.ranks(), self.current)
 
     # Calls
 
@@ -509,7 +543,7 @@ class Kernel:
     # Printing
 
     def limits(self):
-        """The last segment of the table."""
+        """The segment of the table."""
         show = lambda limit: ",".join(map(str, limit or "---"))
         return ";".join(f"{at},{show(t.limit)},{int(t.ended)}" for at, t in enumerate(self.slots) if t is not None)
 
@@ -529,7 +563,7 @@ class Kernel:
         parts.append(" ".join(f"{s.count},{queue(s.queue)};" for s in self.semaphores))
         parts.append(" ".join(f"{int(e.signalled)},{queue(e.queue)};" for e in self.events))
         if all:
-            parts += [",".join(map(str, self.charges)), self.limits()]
+            parts += [",".join(map(str, self.charges)), self.limits(), ",".join("-" if rank is None else str(rank) for rank in self.ranks())]
         return " | ".join(parts)
 
 
@@ -697,13 +731,99 @@ def times_met(kernel, k, y, number):
             yield rate, "past 2^64, accepted if it wrapped"
 
 
+def wrong_ranks(kernel, links=LINKS, highest=False, skip=False, up=False):
+    """Ranks that are not 02's: by chains of at most so many links; by the highest mutex at which a task is queued; by the lowest whose
+    owner is present; or of waiters that are not Blocked too. With none of these they are 02's."""
+    def link(at):
+        found = [kernel.find(kernel.mutexes[k].owner) for k in kernel.mutexes_of(at)]
+        if skip:
+            found = [to for to in found if to is not None]
+        return found[-1 if highest else 0] if found and (up or kernel.slots[at].state == BLOCKED) else None
+
+    ranks = [None if task is None else task.priority for task in kernel.slots]
+    for at, task in enumerate(kernel.slots):
+        to, left = None if task is None else link(at), links
+        while to is not None and left > 0:
+            ranks[to] = min(ranks[to], task.priority)
+            to, left = link(to), left - 1
+    return ranks
+
+
+# What a pick by ranks that are not 02's is called where it gives another slot.
+WRONG_PICKS = {"the own number": {"links": 0}, "one link": {"links": 1}, "two links": {"links": 2}, "three links": {"links": 3},
+               "the highest mutex": {"highest": True}, "the next mutex where an owner is gone": {"skip": True}, "waiters that are up": {"up": True}}
+
+
+def picks_of(kernel):
+    """What start or switch would pick, before the call, with every kind of rank; and the ranks."""
+    states = kernel.states()
+    if kernel.started and kernel.own().state == RUNNING:
+        states[kernel.current] = READY
+    ranks = kernel.ranks()
+    picks = {name: pick(states, wrong_ranks(kernel, **how), kernel.current) for name, how in WRONG_PICKS.items()}
+    return ranks, states, picks
+
+
+def ranks_met(before, kernel, op):
+    """What is to be seen of ranks after an accepted call, as tuples; see RANKS in tests/adversarial/run. Before it: ids, ranks, states, picks,
+    current, and the mutexes at which that was queued."""
+    ids, old, states, picks, current, queued_before = before
+    new = kernel.ranks()
+    for at, task in enumerate(kernel.slots):
+        if task is None:
+            continue
+        queued = kernel.mutexes_of(at)
+        if new[at] < task.priority:
+            yield ("lent", task.state)
+            if at == 0:
+                yield ("idle", "lent")
+        if task.id == ids[at] and new[at] != old[at]:
+            yield ("smaller by" if new[at] < old[at] else "larger by", op)
+        if queued and task.state != BLOCKED:
+            yield ("queued", task.state)
+        if not queued or task.state != BLOCKED:
+            continue
+        chain, to = kernel.chain(at), kernel.link(at)
+        if to is None:
+            yield ("owner", EMPTY, False)
+        else:
+            yield ("owner", kernel.slots[to].state, kernel.mutexes_of(to) != [])
+            back = kernel.link(chain[-1])
+            if back is None:
+                yield ("links", len(chain))
+            elif at in chain:
+                yield ("ring", len(chain))
+            else:
+                yield ("ring", len(chain) - chain.index(back), "outside", chain.index(back) + 1)
+        if len(queued) > 1:
+            yield ("queued at", len(queued), to is not None)
+        if at == 0:
+            yield ("idle", "lends")
+        if 0 in chain[:-1]:
+            yield ("idle", "in the middle")
+    if any(kernel.find(id) is None for mutex in kernel.mutexes for id in mutex.queue):
+        yield ("queued", EMPTY)
+    if op not in (0x02, 0x04) and states[current] != BLOCKED and kernel.own().state == BLOCKED and queued_before:
+        yield ("Blocked anew by", op)
+    if op in (0x02, 0x04):
+        yield from (("pick, not by", name) for name, slot in picks.items() if slot != kernel.current)
+        peers = {kernel.slots[at].priority for at in range(SLOTS) if states[at] == READY and old[at] == old[kernel.current]}
+        if states[kernel.current] == READY and len(peers) > 1:
+            yield ("pick, peers of several numbers",)
+        if READY not in states:
+            yield ("pick, none Ready", "lent" if old[0] < 255 else "not lent", "ranks change" if new != old else "no rank changes")
+
+
 def run(data, tables, out, tick=0):
     """Appends what `turns` or `tables` prints, line by line. Gives the pairs of operation and number that were met; of each
     release and signal that dropped heads the operation, their states (EMPTY for one that is gone) and how many ids stay queued; what
-    was done to limits; and of which ticks milliseconds were asked."""
-    machine, table, met, drops, limits, times = Machine(tables, tick), None, set(), set(), set(), set()
+    was done to limits; of which ticks milliseconds were asked; and what was to be seen of ranks, each with how often."""
+    machine, table, met, drops, limits, times, ranks = Machine(tables, tick), None, set(), set(), set(), set(), Counter()
     for line in lines_of(data):
         kernel = machine.kernel
+        queues = any(mutex.queue for mutex in kernel.mutexes)
+        seen = ([None if t is None else t.id for t in kernel.slots], *picks_of(kernel), kernel.current,
+                kernel.mutexes_of(kernel.current)) if queues or line[:2] == b"0a" else None
         current, before = kernel.current, {at: (t.id, t.limit, t.ended) for at, t in enumerate(kernel.slots) if t is not None} if tables else {}
         op, number, value = machine.step(line)
         met.add((op, number))
@@ -713,12 +833,14 @@ def run(data, tables, out, tick=0):
             limits.update(limits_met(current, before, kernel, op, None if op is None else int(line[2:4], 16), (number, value)))
         if op == 0x18 and number != 0xFF:
             times.update(times_met(kernel, int(line[2:4], 16), int(line[4:12], 16), number))
+        if seen and kernel is machine.kernel and number == 0:
+            ranks.update(set(ranks_met(seen, kernel, op)))
         out.append(machine.answer(number, value))
         if tables:
             if number == 0 or table is None:    # a refusal alters nothing
                 table = machine.kernel.table() + "\n"
             out.append(table)
-    return met, drops, limits, times
+    return met, drops, limits, times, ranks
 
 
 def replay(data, out):

@@ -1,10 +1,11 @@
--- Counted loops: one invariant for all of them, and what `all`, `any`, `count`, `lowest` and `largest` tell of each number.
-use Prim.Native.Nat.{ℕ, zero, suc, _+_, _-_, _≤_, _<_, zero-le}
+-- Counted loops: one invariant for all of them, and what `all`, `any`, `count`, `lowest`, `largest` and `smallest` tell of each number.
+use Prim.Native.Nat.{ℕ, zero, suc, _+_, _-_, _≤_, _<_, zero-le, min}
 use native.Mathlib.Omega.{arith}
 use native.Mathlib.Nat.{le-refl}
 use mathlib.Core.Path.{_≡_, refl, sym, ap, _∙_}
 use mathlib.Core.Bool.{Bool, true, false, _&&_, _||_, false≢true}
 use mathlib.Core.List.{List, [], _∷_, _++_, append-assoc, append-nil, map}
+use mathlib.Core.Logic.{_⊎_, inl, inr}
 use lib.Dec.{ltb, lit≤}
 use lib.ListN.{length, getD, set, drop, length-append, length-drop, length-map}
 use lib.Seq.{drop-cons, set-at, getD-at, drop-length, getD-set-same, getD-set-other, set-out, ext-getD}
@@ -14,7 +15,7 @@ use native.Mathlib.Numerals.{add-one}
 use mir.Val.{boolByte}
 use borrow.Author.Tests.{lt-ltb, le-ltb, ltb-true, ltb-false}
 use Rattle.base.specs.Choice.{if_then_else_}
-use Rattle.base.specs.Below.{allBelow, anyBelow, countBelow, lowestBelow, largestBelow, tabulate}
+use Rattle.base.specs.Below.{allBelow, anyBelow, countBelow, lowestBelow, largestBelow, smallestBelow, tabulate}
 use Rattle.base.proofs.Choices.{and-left, and-right, either, through}
 
 -- A loop's invariant: x is f of the i turns done, of n.
@@ -136,6 +137,28 @@ count-one p q (suc n) x h e f s =
       | no g ↦ rw (s n g, count-one p q n x (omega arith) e f s) (sym (through suc (p n) (suc (countBelow p n)) (countBelow p n)))
     ]
 
+-- q holds of nothing that p does not hold of, and p of one number more
+count-within : (p q : ℕ → Bool) (n : ℕ) → ((i : ℕ) → q i ≡ true → p i ≡ true) → countBelow q n ≤ countBelow p n
+unfolding countBelow
+count-within p q zero f = zero-le
+count-within p q (suc n) f =
+    let r = count-within p q n f in
+    either (λ m. m ≤ (if p n then suc (countBelow p n) else countBelow p n)) (q n)
+    (λ e. either (λ m. suc (countBelow q n) ≤ m) (p n) (λ _. omega (arith, r)) (λ g. absurd (false≢true (sym g ∙ f n e))))
+    (λ _. either (λ m. countBelow q n ≤ m) (p n) (λ _. omega (arith, r)) (λ _. r))
+
+pub count-fewer : (p q : ℕ → Bool) (n x : ℕ) → x < n → p x ≡ true → q x ≡ false → ((i : ℕ) → q i ≡ true → p i ≡ true) → countBelow q n < countBelow p n
+unfolding countBelow if_then_else_
+count-fewer p q zero x h e g f = absurd (omega arith)
+count-fewer p q (suc n) x h e g f =
+    elim (decLt x n) [
+      | yes l ↦ let r = count-fewer p q n x l e g f in
+          either (λ m. m < (if p n then suc (countBelow p n) else countBelow p n)) (q n)
+          (λ a. either (λ m. suc (countBelow q n) < m) (p n) (λ _. omega (arith, r)) (λ b. absurd (false≢true (sym b ∙ f n a))))
+          (λ _. either (λ m. countBelow q n < m) (p n) (λ _. omega (arith, r)) (λ _. r))
+      | no l ↦ let is : x ≡ n = only x n h l in rw (← is, e, g) (let r = count-within p q x f in omega (arith, r))
+    ]
+
 pub count-start : (p : ℕ → Bool) (n : ℕ) → Upto (countBelow p) n 0 0
 count-start p n = (zero-le, count-none p)
 
@@ -225,6 +248,15 @@ lowest-at p n j e =
       | no q ↦ omega arith
     ]
 
+-- p holds of i and of none before it
+pub lowest-only : (p : ℕ → Bool) (n i : ℕ) → i < n → p i ≡ true → ((j : ℕ) → j < i → p j ≡ false) → lowestBelow p n ≡ i
+lowest-only p n i h e f =
+    let l = lowest-at p n i e in
+    elim (decLt (lowestBelow p n) i) [
+      | yes q ↦ absurd (false≢true (sym (f (lowestBelow p n) q) ∙ lowest-is p n (omega (arith, q, h))))
+      | no q ↦ omega (arith, l, q)
+    ]
+
 -- two tests that agree below n
 pub lowest-same : (p q : ℕ → Bool) (n : ℕ) → ((i : ℕ) → i < n → p i ≡ q i) → lowestBelow p n ≡ lowestBelow q n
 unfolding lowestBelow
@@ -248,6 +280,58 @@ largest-is p (suc n) m h e above =
       | yes q ↦ rw (above n q) (largest-is p n m q e above)
       | no q ↦ let is : m ≡ n = only m n h q in rw (← is, e) refl
     ]
+
+-- ---- smallest
+
+pub smallest-le : (p : ℕ → Bool) (f : ℕ → ℕ) (x n : ℕ) → smallestBelow p f x n ≤ x
+unfolding smallestBelow
+smallest-le p f x zero = le-refl x
+smallest-le p f x (suc n) = either (λ m. m ≤ x) (p n) (λ _. omega (arith, smallest-le p f x n)) (λ _. smallest-le p f x n)
+
+-- at most f of each that p holds of
+pub smallest-at : (p : ℕ → Bool) (f : ℕ → ℕ) (x n i : ℕ) → i < n → p i ≡ true → smallestBelow p f x n ≤ f i
+unfolding smallestBelow if_then_else_
+smallest-at p f x zero i h e = absurd (omega arith)
+smallest-at p f x (suc n) i h e =
+    elim (decLt i n) [
+      | yes q ↦ either (λ m. m ≤ f i) (p n) (λ _. omega (arith, smallest-at p f x n i q e)) (λ _. smallest-at p f x n i q e)
+      | no q ↦ let is : i ≡ n = only i n h q in rw (← is, e) (omega arith)
+    ]
+
+-- and no smaller than all of them
+pub smallest-least : (b : ℕ) (p : ℕ → Bool) (f : ℕ → ℕ) (x n : ℕ) → b ≤ x → ((i : ℕ) → i < n → p i ≡ true → b ≤ f i) → b ≤ smallestBelow p f x n
+unfolding smallestBelow
+smallest-least b p f x zero h g = h
+smallest-least b p f x (suc n) h g =
+    let r = smallest-least b p f x n h (λ i l. g i (omega arith)) in
+    either (λ m. b ≤ m) (p n) (λ e. omega (arith, r, g n (omega arith) e)) (λ _. r)
+
+-- it is x, or f of one of them
+pub smallest-is : (p : ℕ → Bool) (f : ℕ → ℕ) (x n : ℕ) → (smallestBelow p f x n ≡ x) ⊎ ((i : ℕ) × (i < n) × (p i ≡ true) × (smallestBelow p f x n ≡ f i))
+unfolding smallestBelow
+smallest-is p f x zero = inl refl
+smallest-is p f x (suc n) =
+    either (λ m. (m ≡ x) ⊎ ((i : ℕ) × (i < suc n) × (p i ≡ true) × (m ≡ f i))) (p n)
+    (λ e. elim (decLt (f n) (smallestBelow p f x n)) [
+      | yes h ↦ inr (n, omega arith, e, omega arith)
+      | no h ↦ wider (min (smallestBelow p f x n) (f n)) (omega arith) (smallest-is p f x n)
+    ])
+    (λ _. wider (smallestBelow p f x n) refl (smallest-is p f x n))
+  where
+    wider : (m : ℕ) → m ≡ smallestBelow p f x n → (smallestBelow p f x n ≡ x) ⊎ ((i : ℕ) × (i < n) × (p i ≡ true) × (smallestBelow p f x n ≡ f i)) → (m ≡ x) ⊎ ((i : ℕ) × (i < suc n) × (p i ≡ true) × (m ≡ f i))
+    wider m q (inl e) = inl (q ∙ e)
+    wider m q (inr r) = inr (r .0, omega (arith, r .1), r .2, q ∙ r .3)
+
+pub smallest-same : (p q : ℕ → Bool) (f g : ℕ → ℕ) (x n : ℕ) → ((i : ℕ) → i < n → p i ≡ q i) → ((i : ℕ) → i < n → f i ≡ g i) → smallestBelow p f x n ≡ smallestBelow q g x n
+unfolding smallestBelow
+smallest-same p q f g x zero a b = refl
+smallest-same p q f g x (suc n) a b = rw (smallest-same p q f g x n (λ i h. a i (omega arith)) (λ i h. b i (omega arith)), a n (omega arith), b n (omega arith))
+
+-- p holds of none
+pub smallest-none : (p : ℕ → Bool) (f : ℕ → ℕ) (x n : ℕ) → ((i : ℕ) → i < n → p i ≡ false) → smallestBelow p f x n ≡ x
+unfolding smallestBelow if_then_else_
+smallest-none p f x zero a = refl
+smallest-none p f x (suc n) a = rw (a n (omega arith)) (smallest-none p f x n (λ i h. a i (omega arith)))
 
 -- ---- tabulate
 

@@ -1,5 +1,5 @@
 -- What holds of the numbers below n, such as the sixteen slots.
-use Prim.Native.Nat.{ℕ, zero, suc}
+use Prim.Native.Nat.{ℕ, zero, suc, min}
 use mathlib.Core.Bool.{Bool, true, false, _&&_, _||_}
 use mathlib.Core.List.{List, [], _∷_, _++_}
 use lib.Dec.{ltb}
@@ -29,6 +29,11 @@ lowestBelow p (suc n) = if ltb (lowestBelow p n) n then lowestBelow p n else if 
 unfoldable pub largestBelow : (ℕ → Bool) → ℕ → ℕ
 largestBelow p zero = 0
 largestBelow p (suc n) = if p n then n else largestBelow p n
+
+-- the smallest of x and of f of each of them that p holds of
+unfoldable pub smallestBelow : (ℕ → Bool) → (ℕ → ℕ) → ℕ → ℕ → ℕ
+smallestBelow p f x zero = x
+smallestBelow p f x (suc n) = if p n then min (smallestBelow p f x n) (f n) else smallestBelow p f x n
 
 -- f of each of them, in order
 unfoldable pub tabulate : {A : Type 0} → (ℕ → A) → ℕ → List A

@@ -4,7 +4,7 @@ use mathlib.Core.Bool.{Bool, true, false}
 use mathlib.Core.List.{List, [], _∷_, _++_}
 use mathlib.Core.Logic.{_⊎_, inl, inr, _≢_}
 use Prim.Native.Nat.{ℕ, _≤_}
-use lib.Dec.{leb}
+use lib.Dec.{eqb, leb}
 use borrow.Author.Tests.{eqb-true, eqb-false, leb-true, not-true, eq-eqb}
 use Rattle.base.specs.Choice.{every}
 use Rattle.base.proofs.Choices.{and-left, and-right, implied, every-at}
@@ -14,10 +14,10 @@ use Rattle.kernel.specs.declared.control.TaskState.the-variants.{Ready, Running
 use Rattle.kernel.specs.declared.scheduler.Kernel.{Kernel}
 use Rattle.kernel.specs.Control.{stateNumber, sameId}
 use Rattle.kernel.specs.Kernel.{slot}
-use Rattle.kernel.specs.Scheduler.{priorityOf}
+use Rattle.kernel.specs.Rank.{rank}
 use Rattle.kernel.specs.Calls.{Kind, adding, reaping, starting, switching, ticking, owning, plain, kind}
 use Rattle.book_guarantees.specs.Lists.{Entry, after, Each, EachNext, Outcome, turn, tick, other, outcome, AcceptedSwitch}
-use Rattle.book_guarantees.specs.Turns.{Holds, Stretch, Peer}
+use Rattle.book_guarantees.specs.Turns.{Holds, Stretch, Peer, Unchanging}
 use Rattle.book_guarantees.proofs.BestFirst.{clash}
 use Rattle.book_examples.specs.Tests.{each, eachNext, holds, isTurn, notSmaller, wants, switches, acceptedSwitch, entry, between, second, conditions, peer}
 
@@ -55,8 +55,8 @@ turn-is i other q = clash q refl
 apart-is : (i : ℕ) (v : Outcome) → isTurn i v ≡ false → v ≢ turn i
 apart-is i v q e = clash (ap (isTurn i) e ∙ eq-eqb i i refl) q
 
-not-smaller-is : (r : ℕ) (k : Kernel) (v : Outcome) → notSmaller r k v ≡ true → (s : ℕ) → v ≡ turn s → r ≤ priorityOf k s
-not-smaller-is r k v q s e = leb-true r (priorityOf k s) (subst (λ (x : Outcome). notSmaller r k x ≡ true) e q)
+not-smaller-is : (r : ℕ) (k : Kernel) (v : Outcome) → notSmaller r k v ≡ true → (s : ℕ) → v ≡ turn s → r ≤ rank k s
+not-smaller-is r k v q s e = leb-true r (rank k s) (subst (λ (x : Outcome). notSmaller r k x ≡ true) e q)
 
 wants-is : (v : Outcome) → v ≡ tick true → wants v ≡ true
 wants-is v e = rw e
@@ -73,7 +73,7 @@ switches-is plain q = clash q refl
 switch-is : (e : Entry) → acceptedSwitch e ≡ true → AcceptedSwitch e
 switch-is e q = (switches-is (kind (e .call)) (and-left (switches (kind (e .call))) _ q), eqb-true _ _ (and-right (switches (kind (e .call))) _ q))
 
-pub stretch-is : (es : List Entry) (m n i : ℕ) (a : TaskId) → every (conditions es m n i a) ≡ true → Stretch priorityOf i a (entry es m) (between es m n) (second es m n)
+pub stretch-is : (es : List Entry) (m n i : ℕ) (a : TaskId) → every (conditions es m n i a) ≡ true → Stretch rank i a (entry es m) (between es m n) (second es m n)
 stretch-is es m n i a q = record {
   first-turn = turn-is i _ (every-at _ 0 q);
   second-turn = turn-is i _ (every-at _ 1 q);
@@ -83,7 +83,16 @@ stretch-is es m n i a q = record {
   followed = each-next-is _ _ (λ e f x w. switch-is f (implied (wants (outcome e)) _ (wants-is (outcome e) w) x)) (between es m n ++ second es m n ∷ []) (every-at _ 5 q);
 }
 
-pub peer-is : (es : List Entry) (m n i j : ℕ) (b : TaskId) → every (peer es m n i j b) ≡ true → Peer priorityOf i (entry es m) (between es m n) j b
+same-each : (k : Entry) (j : ℕ) (es : List Entry) → each (λ e. eqb (rank (after e) j) (rank (after k) j)) es ≡ true → Unchanging rank j k es
+same-each k j = each-is _ _ (λ e. eqb-true _ _)
+
+pub unchanging-is : (es : List Entry) (m n i : ℕ) (a : TaskId) → every (conditions es m n i a) ≡ true → Unchanging rank i (entry es m) (between es m n)
+unchanging-is es m n i a q = same-each (entry es m) i (between es m n) (every-at _ 6 q)
+
+pub peer-unchanging-is : (es : List Entry) (m n i j : ℕ) (b : TaskId) → every (peer es m n i j b) ≡ true → Unchanging rank j (entry es m) (between es m n)
+peer-unchanging-is es m n i j b q = same-each (entry es m) j (between es m n) (every-at _ 3 q)
+
+pub peer-is : (es : List Entry) (m n i j : ℕ) (b : TaskId) → every (peer es m n i j b) ≡ true → Peer rank i (entry es m) (between es m n) j b
 peer-is es m n i j b q = record {
   another = eqb-false j i (not-true _ (every-at _ 0 q));
   equal = eqb-true _ _ (every-at _ 1 q);

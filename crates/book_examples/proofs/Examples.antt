@@ -3,47 +3,45 @@ use mathlib.Core.Path.{_≡_, refl, subst}
 use mathlib.Core.List.{List, [], _∷_, _++_}
 use lib.ListN.{take, drop}
 use Rattle.base.specs.Choice.{if_then_else_, every}
-use Rattle.base.specs.Below.{allBelow, anyBelow, countBelow, lowestBelow}
+use Rattle.base.specs.Below.{allBelow, anyBelow, countBelow, lowestBelow, smallestBelow, tabulate}
 use Rattle.kernel.specs.declared.scheduler.Kernel.{Kernel}
-use Rattle.kernel.specs.Control.{holdsTask, regionFits, regionsOverlap, painted, stackGuardOk, spInRange}
-use Rattle.kernel.specs.Kernel.{arenaFits, whole, freshKernel, slotOf}
+use Rattle.kernel.specs.Control.{holdsTask, unblocked, regionFits, regionsOverlap, painted, stackGuardOk, spInRange}
+use Rattle.kernel.specs.WaitQueue.{position, pushed, enqueued, placeWithout, without, popped}
+use Rattle.kernel.specs.Kernel.{arenaFits, whole, freshKernel, slotOf, atId}
+use Rattle.kernel.specs.Rank.{link, chain, leadsTo, rank}
 use Rattle.kernel.specs.Scheduler.{isBest, pick, lowestEmpty, overlapsPresent, isDue, isLimitDue, woken, visited, walked, clocked, advanced, sliced, wants, wantsSwitch, contextSaved, reloaded}
 use Rattle.kernel.specs.Scheduler
+use Rattle.kernel.specs.Mutex
 use Rattle.kernel.specs.Calls.{Call, number, value, effect, valueNumber, step, init, initNumber}
 use Rattle.book_guarantees.specs.Lists.{Returned, outcomeOf, outcome, sum}
 use Rattle.book_guarantees.proofs.TurnGuarantee.{turn-guarantee}
 use Rattle.book_examples.specs.Tests.{entry, between, second}
-use Rattle.book_examples.specs.Examples.{run, arena, id, unpainted, mixed-calls, mixed, Mixed, two-tasks, idle-round, late-switch, smaller-number, first-sleeps, not-neighbours, other-sleeps, other-priority, Examples}
-use Rattle.book_examples.proofs.Checked.{stretch-is, peer-is}
+use Rattle.book_examples.specs.Examples.{run, arena, id, unpainted, mixed-calls, mixed, Mixed, two-tasks, idle-round, late-switch, smaller-number, first-sleeps, not-neighbours, other-sleeps, by-rank, first-changes, other-changes, other-priority, Met, Fives, IdleRound, TaskRound, Needed, Changing}
+use Rattle.book_examples.proofs.Checked.{stretch-is, unchanging-is, peer-is, peer-unchanging-is}
 
-pub examples : Examples
-unfolding arena unpainted painted mixed mixed-calls two-tasks idle-round late-switch smaller-number first-sleeps not-neighbours other-sleeps other-priority outcome outcomeOf step number value effect valueNumber init initNumber freshKernel whole arenaFits if_then_else_ every allBelow anyBelow countBelow lowestBelow holdsTask regionFits regionsOverlap stackGuardOk spInRange slotOf isBest pick lowestEmpty overlapsPresent isDue isLimitDue woken visited walked clocked advanced sliced wants wantsSwitch contextSaved reloaded Scheduler.add Scheduler.start Scheduler.tick Scheduler.switch sum
-examples = record {
-  refused = refl;
-  mixed-fresh = refl;
-  mixed-stretch = refl;
-  mixed-peer = refl;
-  stretch = refl;
-  a-peer = refl;
-  own-five = (refl, refl);
-  peer-five = (refl, refl);
-  idle-stretch = refl;
-  seventy-five = refl;
-  task-stretch = refl;
-  seventy-one = refl;
-  late = refl;
-  late-rise = refl;
-  smaller = refl;
-  smaller-waits = (refl, refl);
-  first = refl;
-  first-two = (refl, refl);
-  neighbours = refl;
-  neighbour-two = (refl, refl);
-  asleep = refl;
-  asleep-none = (refl, refl);
-  unequal = refl;
-  unequal-none = (refl, refl);
-}
+pub met : Met
+unfolding arena unpainted painted mixed mixed-calls two-tasks idle-round late-switch smaller-number first-sleeps not-neighbours other-sleeps by-rank first-changes other-changes other-priority outcome outcomeOf step number value effect valueNumber init initNumber freshKernel whole arenaFits if_then_else_ every allBelow anyBelow countBelow lowestBelow smallestBelow tabulate holdsTask link chain leadsTo rank position pushed enqueued atId placeWithout without popped Mutex.lock Mutex.unlock unblocked regionFits regionsOverlap stackGuardOk spInRange slotOf isBest pick lowestEmpty overlapsPresent isDue isLimitDue woken visited walked clocked advanced sliced wants wantsSwitch contextSaved reloaded Scheduler.add Scheduler.start Scheduler.tick Scheduler.switch sum
+met = record { refused = refl; mixed-fresh = refl; mixed-stretch = refl; mixed-peer = refl }
+
+pub fives : Fives
+unfolding arena unpainted painted mixed mixed-calls two-tasks idle-round late-switch smaller-number first-sleeps not-neighbours other-sleeps by-rank first-changes other-changes other-priority outcome outcomeOf step number value effect valueNumber init initNumber freshKernel whole arenaFits if_then_else_ every allBelow anyBelow countBelow lowestBelow smallestBelow tabulate holdsTask link chain leadsTo rank position pushed enqueued atId placeWithout without popped Mutex.lock Mutex.unlock unblocked regionFits regionsOverlap stackGuardOk spInRange slotOf isBest pick lowestEmpty overlapsPresent isDue isLimitDue woken visited walked clocked advanced sliced wants wantsSwitch contextSaved reloaded Scheduler.add Scheduler.start Scheduler.tick Scheduler.switch sum
+fives = record { stretch = refl; a-peer = refl; own-five = (refl, refl); peer-five = (refl, refl) }
+
+pub idle-round-is : IdleRound
+unfolding arena unpainted painted mixed mixed-calls two-tasks idle-round late-switch smaller-number first-sleeps not-neighbours other-sleeps by-rank first-changes other-changes other-priority outcome outcomeOf step number value effect valueNumber init initNumber freshKernel whole arenaFits if_then_else_ every allBelow anyBelow countBelow lowestBelow smallestBelow tabulate holdsTask link chain leadsTo rank position pushed enqueued atId placeWithout without popped Mutex.lock Mutex.unlock unblocked regionFits regionsOverlap stackGuardOk spInRange slotOf isBest pick lowestEmpty overlapsPresent isDue isLimitDue woken visited walked clocked advanced sliced wants wantsSwitch contextSaved reloaded Scheduler.add Scheduler.start Scheduler.tick Scheduler.switch sum
+idle-round-is = record { idle-stretch = refl; seventy-five = refl }
+
+pub task-round-is : TaskRound
+unfolding arena unpainted painted mixed mixed-calls two-tasks idle-round late-switch smaller-number first-sleeps not-neighbours other-sleeps by-rank first-changes other-changes other-priority outcome outcomeOf step number value effect valueNumber init initNumber freshKernel whole arenaFits if_then_else_ every allBelow anyBelow countBelow lowestBelow smallestBelow tabulate holdsTask link chain leadsTo rank position pushed enqueued atId placeWithout without popped Mutex.lock Mutex.unlock unblocked regionFits regionsOverlap stackGuardOk spInRange slotOf isBest pick lowestEmpty overlapsPresent isDue isLimitDue woken visited walked clocked advanced sliced wants wantsSwitch contextSaved reloaded Scheduler.add Scheduler.start Scheduler.tick Scheduler.switch sum
+task-round-is = record { task-stretch = refl; seventy-one = refl }
+
+pub needed : Needed
+unfolding arena unpainted painted mixed mixed-calls two-tasks idle-round late-switch smaller-number first-sleeps not-neighbours other-sleeps by-rank first-changes other-changes other-priority outcome outcomeOf step number value effect valueNumber init initNumber freshKernel whole arenaFits if_then_else_ every allBelow anyBelow countBelow lowestBelow smallestBelow tabulate holdsTask link chain leadsTo rank position pushed enqueued atId placeWithout without popped Mutex.lock Mutex.unlock unblocked regionFits regionsOverlap stackGuardOk spInRange slotOf isBest pick lowestEmpty overlapsPresent isDue isLimitDue woken visited walked clocked advanced sliced wants wantsSwitch contextSaved reloaded Scheduler.add Scheduler.start Scheduler.tick Scheduler.switch sum
+needed = record { late = refl; late-rise = refl; smaller = refl; smaller-waits = (refl, refl); first = refl; first-two = (refl, refl); neighbours = refl; neighbour-two = (refl, refl); asleep = refl; asleep-none = (refl, refl); unequal = refl; unequal-none = (refl, refl) }
+
+pub changing : Changing
+unfolding arena unpainted painted mixed mixed-calls two-tasks idle-round late-switch smaller-number first-sleeps not-neighbours other-sleeps by-rank first-changes other-changes other-priority outcome outcomeOf step number value effect valueNumber init initNumber freshKernel whole arenaFits if_then_else_ every allBelow anyBelow countBelow lowestBelow smallestBelow tabulate holdsTask link chain leadsTo rank position pushed enqueued atId placeWithout without popped Mutex.lock Mutex.unlock unblocked regionFits regionsOverlap stackGuardOk spInRange slotOf isBest pick lowestEmpty overlapsPresent isDue isLimitDue woken visited walked clocked advanced sliced wants wantsSwitch contextSaved reloaded Scheduler.add Scheduler.start Scheduler.tick Scheduler.switch sum
+changing = record { covered = (refl, refl, refl); inherited = refl; changed = refl; changed-two = (refl, refl); unchanged = refl; unchanged-none = (refl, refl) }
 
 run-returned : (k : Kernel) (cs : List Call) → Returned k (run k cs)
 run-returned k [] = tt
@@ -59,11 +57,13 @@ mixed-returned = subst (Returned (init 1000 2112 .kernel)) split (run-returned (
 
 pub mixed-fair : Mixed
 mixed-fair =
-    let s = stretch-is mixed 2 11 1 (id 1) (examples .mixed-stretch) in
+    let s = stretch-is mixed 2 11 1 (id 1) (met .mixed-stretch) in
+    let u = unchanging-is mixed 2 11 1 (id 1) (met .mixed-stretch) in
     record {
-      fresh = examples .mixed-fresh;
+      fresh = met .mixed-fresh;
       returned = mixed-returned;
       stretch = s;
-      a-peer = peer-is mixed 2 11 1 2 (id 2) (examples .mixed-peer);
-      fair = turn-guarantee 1000 2112 (examples .mixed-fresh) (take 2 mixed) (between mixed 2 11) (drop 15 mixed) (entry mixed 2) (second mixed 2 11) mixed-returned 1 (id 1) s;
+      unchanging = u;
+      a-peer = (peer-is mixed 2 11 1 2 (id 2) (met .mixed-peer), peer-unchanging-is mixed 2 11 1 2 (id 2) (met .mixed-peer));
+      fair = turn-guarantee 1000 2112 (met .mixed-fresh) (take 2 mixed) (between mixed 2 11) (drop 15 mixed) (entry mixed 2) (second mixed 2 11) mixed-returned 1 (id 1) s u;
     }

@@ -11,10 +11,11 @@ use Rattle.kernel.specs.declared.control.TaskId.{TaskId}
 use Rattle.kernel.specs.declared.control.StackRegion.{StackRegion}
 use Rattle.kernel.specs.declared.scheduler.Kernel.{Kernel}
 use Rattle.kernel.specs.Control.{paint, painted}
-use Rattle.kernel.specs.Scheduler.{priorityOf}
-use Rattle.kernel.specs.Calls.{Call, add, start, tick, switch, sleep, lock, step, init, initNumber}
-use Rattle.book_guarantees.specs.Lists.{Entry, Returned, sum}
-use Rattle.book_guarantees.specs.Turns.{Stretch, Peer, Fair}
+use Rattle.kernel.specs.Rank.{rank}
+use Rattle.kernel.specs.Calls.{Call, add, start, tick, switch, sleep, wake, lock, unlock, step, init, initNumber}
+use Rattle.base.specs.Below.{tabulate}
+use Rattle.book_guarantees.specs.Lists.{Entry, after, Returned, sum}
+use Rattle.book_guarantees.specs.Turns.{Stretch, Peer, Unchanging, Fair}
 use Rattle.book_examples.specs.Tests.{entry, between, second, conditions, peer, turnsOf, ticksOf, riseOf}
 
 -- ---- lists of calls, from a fresh kernel with hz 1000 and 2,112 words
@@ -75,9 +76,10 @@ mixed = played mixed-calls
 pub record Mixed : Type 0 where
   pub fresh : initNumber 1000 2112 ≡ 0
   pub returned : Returned (init 1000 2112 .kernel) (take 2 mixed ++ entry mixed 2 ∷ (between mixed 2 11 ++ second mixed 2 11 ∷ drop 15 mixed))
-  pub stretch : Stretch priorityOf 1 (id 1) (entry mixed 2) (between mixed 2 11) (second mixed 2 11)
-  pub a-peer : Peer priorityOf 1 (entry mixed 2) (between mixed 2 11) 2 (id 2)
-  pub fair : Fair (Peer priorityOf 1 (entry mixed 2) (between mixed 2 11)) 1 (entry mixed 2) (between mixed 2 11)
+  pub stretch : Stretch rank 1 (id 1) (entry mixed 2) (between mixed 2 11) (second mixed 2 11)
+  pub unchanging : Unchanging rank 1 (entry mixed 2) (between mixed 2 11)
+  pub a-peer : Peer rank 1 (entry mixed 2) (between mixed 2 11) 2 (id 2) × Unchanging rank 2 (entry mixed 2) (between mixed 2 11)
+  pub fair : Fair (λ j b. Peer rank 1 (entry mixed 2) (between mixed 2 11) j b × Unchanging rank j (entry mixed 2) (between mixed 2 11)) 1 (entry mixed 2) (between mixed 2 11)
 
 -- ---- the bounds are met, and each condition is needed
 
@@ -109,40 +111,74 @@ not-neighbours = played (task 1 9 ∷ task 2 9 ∷ start ∷ leave 1 ∷ leave 2
 unfoldable pub other-sleeps : List Entry
 other-sleeps = played (task 1 9 ∷ task 2 9 ∷ start ∷ leave 1 ∷ sleep 5 ∷ leave 2 ∷ leave 1 ∷ [])
 
+-- Task 1, at 9, holds mutexes 0 and 1; tasks 2 and 3 are at 5, and task 3 waits at mutex 0: so task 1 is of rank 5 too. The last of these is entry 13.
+abbrev pub inherits : List Call
+inherits = task 1 9 ∷ task 2 5 ∷ task 3 5 ∷ start ∷ sleep 1 ∷ leave 2 ∷ sleep 1 ∷ leave 3 ∷ lock 0 ∷ lock 1 ∷ tick ∷ leave 1 ∷ leave 2 ∷ lock 0 ∷ []
+
+-- a stretch of task 1 by that rank, with task 2 for a peer
+unfoldable pub by-rank : List Entry
+by-rank = played (inherits ++ (leave 3 ∷ leave 1 ∷ leave 2 ∷ []))
+
+-- the first task's rank changes: it unlocks, is of rank 9, and 5 again once task 3 waits at mutex 1; task 2 has two turns
+unfoldable pub first-changes : List Entry
+first-changes = played (inherits ++ (leave 3 ∷ unlock 0 ∷ leave 1 ∷ leave 2 ∷ leave 3 ∷ leave 2 ∷ lock 1 ∷ leave 3 ∷ []))
+
+-- the other task's rank changes: task 3 is woken by hand between two turns of task 2, so task 1 is of rank 9 again, and has none
+unfoldable pub other-changes : List Entry
+other-changes = played (inherits ++ (leave 3 ∷ leave 1 ∷ wake (id 3) ∷ leave 2 ∷ leave 3 ∷ []))
+
 -- another priority: it has none
 unfoldable pub other-priority : List Entry
 other-priority = played (task 1 9 ∷ task 2 10 ∷ start ∷ leave 1 ∷ [])
 
-pub record Examples : Type 0 where
+-- a list that meets every premise
+pub record Met : Type 0 where
   -- refused are a switch whose guard is not painted, an add of a region that is taken, a lock of no object, a second start
   pub refused : map (λ (e : Entry). e .answer .number) mixed ≡ 0 ∷ 0 ∷ 0 ∷ 0 ∷ 17 ∷ 5 ∷ 0 ∷ 20 ∷ 0 ∷ 0 ∷ 0 ∷ 0 ∷ 0 ∷ 3 ∷ 0 ∷ 0 ∷ []
   pub mixed-fresh : initNumber 1000 2112 ≡ 0
   pub mixed-stretch : every (conditions mixed 2 11 1 (id 1)) ≡ true
   pub mixed-peer : every (peer mixed 2 11 1 2 (id 2)) ≡ true
+
+pub record Fives : Type 0 where
   -- both fives are met, the first task's and its peer's
   pub stretch : every (conditions two-tasks 2 11 1 (id 1)) ≡ true
   pub a-peer : every (peer two-tasks 2 11 1 2 (id 2)) ≡ true
   pub own-five : (ticksOf two-tasks 2 11 1 ≡ 5) × (riseOf two-tasks 2 11 1 ≡ 5)
   pub peer-five : (ticksOf two-tasks 2 11 2 ≡ 5) × (riseOf two-tasks 2 11 2 ≡ 5)
-  -- 75 is met, and 71 for a task that is not idle
+
+-- 75 is met, by idle; and 71 by a task that is not idle
+pub record IdleRound : Type 0 where
   pub idle-stretch : every (conditions idle-round 105 91 0 (id 0)) ≡ true
   pub seventy-five : sum (λ j. if eqb j 0 then 0 else riseOf idle-round 105 91 j) 16 ≡ 75
+
+pub record TaskRound : Type 0 where
   pub task-stretch : every (conditions idle-round 15 91 1 (id 1)) ≡ true
   pub seventy-one : sum (λ j. if eqb j 1 then 0 else riseOf idle-round 15 91 j) 16 ≡ 71
+
+pub record Needed : Type 0 where
   -- all but "followed": a rise of 6
-  pub late : conditions late-switch 2 7 1 (id 1) ≡ true ∷ true ∷ true ∷ true ∷ true ∷ false ∷ []
+  pub late : conditions late-switch 2 7 1 (id 1) ≡ true ∷ true ∷ true ∷ true ∷ true ∷ false ∷ true ∷ []
   pub late-rise : riseOf late-switch 2 7 1 ≡ 6
   -- all but "none smaller": a peer has no turn
-  pub smaller : conditions smaller-number 5 3 2 (id 2) ≡ true ∷ true ∷ true ∷ true ∷ false ∷ true ∷ []
+  pub smaller : conditions smaller-number 5 3 2 (id 2) ≡ true ∷ true ∷ true ∷ true ∷ false ∷ true ∷ true ∷ []
   pub smaller-waits : (every (peer smaller-number 5 3 2 3 (id 3)) ≡ true) × (turnsOf smaller-number 5 3 3 ≡ 0)
   -- all but "stays": a peer has two turns
-  pub first : conditions first-sleeps 2 4 1 (id 1) ≡ true ∷ true ∷ true ∷ false ∷ true ∷ true ∷ []
+  pub first : conditions first-sleeps 2 4 1 (id 1) ≡ true ∷ true ∷ true ∷ false ∷ true ∷ true ∷ true ∷ []
   pub first-two : (every (peer first-sleeps 2 4 1 2 (id 2)) ≡ true) × (turnsOf first-sleeps 2 4 2 ≡ 2)
   -- all but "neighbouring": a peer has two turns
-  pub neighbours : conditions not-neighbours 2 3 1 (id 1) ≡ true ∷ true ∷ false ∷ true ∷ true ∷ true ∷ []
+  pub neighbours : conditions not-neighbours 2 3 1 (id 1) ≡ true ∷ true ∷ false ∷ true ∷ true ∷ true ∷ true ∷ []
   pub neighbour-two : (every (peer not-neighbours 2 3 1 2 (id 2)) ≡ true) × (turnsOf not-neighbours 2 3 2 ≡ 2)
-  -- a stretch, and a task that would be a peer had it stayed, or had it the same priority: it has no turn
+  -- a stretch, and a task that would be a peer had it stayed, or had it the same rank: it has no turn
   pub asleep : every (conditions other-sleeps 5 0 1 (id 1)) ≡ true
-  pub asleep-none : (peer other-sleeps 5 0 1 2 (id 2) ≡ true ∷ true ∷ false ∷ []) × (turnsOf other-sleeps 5 0 2 ≡ 0)
+  pub asleep-none : (peer other-sleeps 5 0 1 2 (id 2) ≡ true ∷ true ∷ false ∷ true ∷ []) × (turnsOf other-sleeps 5 0 2 ≡ 0)
   pub unequal : every (conditions other-priority 2 0 1 (id 1)) ≡ true
-  pub unequal-none : (peer other-priority 2 0 1 2 (id 2) ≡ true ∷ false ∷ true ∷ []) × (turnsOf other-priority 2 0 2 ≡ 0)
+  pub unequal-none : (peer other-priority 2 0 1 2 (id 2) ≡ true ∷ false ∷ true ∷ true ∷ []) × (turnsOf other-priority 2 0 2 ≡ 0)
+
+-- tasks at 9 and at 5 are of one rank, and each has its turn; then all but "unchanging", of the first task or of the other
+pub record Changing : Type 0 where
+  pub covered : (every (conditions by-rank 14 1 1 (id 1)) ≡ true) × (every (peer by-rank 14 1 1 2 (id 2)) ≡ true) × (turnsOf by-rank 14 1 2 ≡ 1)
+  pub inherited : tabulate (rank (after (entry first-changes 13))) 4 ≡ 255 ∷ 5 ∷ 5 ∷ 5 ∷ []
+  pub changed : conditions first-changes 14 6 1 (id 1) ≡ true ∷ true ∷ true ∷ true ∷ true ∷ true ∷ false ∷ []
+  pub changed-two : (every (peer first-changes 14 6 1 2 (id 2)) ≡ true) × (turnsOf first-changes 14 6 2 ≡ 2)
+  pub unchanged : every (conditions other-changes 15 2 2 (id 2)) ≡ true
+  pub unchanged-none : (peer other-changes 15 2 2 1 (id 1) ≡ true ∷ true ∷ true ∷ false ∷ []) × (turnsOf other-changes 15 2 1 ≡ 0)

@@ -8,7 +8,7 @@ use Rattle.kernel.specs.declared.control.TaskId.{TaskId}
 use Rattle.kernel.specs.declared.scheduler.Kernel.{Kernel}
 use Rattle.kernel.specs.Control.{stateNumber, sameId}
 use Rattle.kernel.specs.Kernel.{slot}
-use Rattle.kernel.specs.Scheduler.{priorityOf}
+use Rattle.kernel.specs.Rank.{rank}
 use Rattle.kernel.specs.Calls.{start, Kind, adding, reaping, starting, switching, ticking, owning, plain, kind, init}
 use Rattle.book_guarantees.specs.Lists.{Entry, after, Outcome, turn, tick, other, outcome, turns, ticksWhile}
 use Rattle.book_guarantees.specs.Turns.{rise}
@@ -31,9 +31,9 @@ isTurn i (turn s) = eqb s i
 isTurn i (tick w) = false
 isTurn i other = false
 
--- a turn is not one of a slot of a priority number below r
+-- a turn is not one of a slot of a rank below r
 abbrev pub notSmaller : ℕ → Kernel → Outcome → Bool
-notSmaller r k (turn s) = leb r (priorityOf k s)
+notSmaller r k (turn s) = leb r (rank k s)
 notSmaller r k (tick w) = true
 notSmaller r k other = true
 
@@ -68,20 +68,24 @@ second es m n = entry es (suc (m + n))
 abbrev pub stays : List Entry → ℕ → ℕ → ℕ → TaskId → Bool
 stays es m n j a = each (λ e. holds j a (after e)) (entry es m ∷ between es m n)
 
--- `Stretch` of task a in slot i: first turn, second turn, neighbouring, stays, none smaller, followed
+abbrev pub unchanging : List Entry → ℕ → ℕ → ℕ → Bool
+unchanging es m n j = each (λ e. eqb (rank (after e) j) (rank (after (entry es m)) j)) (between es m n)
+
+-- `Stretch` of task a in slot i: first turn, second turn, neighbouring, stays, none smaller, followed; then `Unchanging`
 abbrev pub conditions : List Entry → ℕ → ℕ → ℕ → TaskId → List Bool
 conditions es m n i a =
     isTurn i (outcome (entry es m))
     ∷ isTurn i (outcome (second es m n))
     ∷ each (λ e. not (isTurn i (outcome e))) (between es m n)
     ∷ stays es m n i a
-    ∷ each (λ e. notSmaller (priorityOf (after (entry es m)) i) (after e) (outcome e)) (between es m n)
+    ∷ each (λ e. notSmaller (rank (after (entry es m)) i) (after e) (outcome e)) (between es m n)
     ∷ eachNext (λ e f. not (wants (outcome e)) || acceptedSwitch f) (between es m n ++ second es m n ∷ [])
+    ∷ unchanging es m n i
     ∷ []
 
--- `Peer` of slot i, task b in slot j: another, equal, stayed
+-- `Peer` of slot i, task b in slot j: another, equal, stayed; then `Unchanging`
 abbrev pub peer : List Entry → ℕ → ℕ → ℕ → ℕ → TaskId → List Bool
-peer es m n i j b = not (eqb j i) ∷ eqb (priorityOf (after (entry es m)) j) (priorityOf (after (entry es m)) i) ∷ stays es m n j b ∷ []
+peer es m n i j b = not (eqb j i) ∷ eqb (rank (after (entry es m)) j) (rank (after (entry es m)) i) ∷ stays es m n j b ∷ unchanging es m n j ∷ []
 
 abbrev pub turnsOf : List Entry → ℕ → ℕ → ℕ → ℕ
 turnsOf es m n j = turns j (between es m n)

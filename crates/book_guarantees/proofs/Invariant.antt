@@ -21,15 +21,16 @@ use Rattle.kernel.specs.declared.scheduler.Kernel.{Kernel}
 use Rattle.kernel.specs.Update.{withRemaining}
 use Rattle.kernel.specs.Control.{stateNumber, holdsTask, hasLimit, blankSlot}
 use Rattle.kernel.specs.Kernel.{slot, charge, at, current, currentTask, freshKernel}
-use Rattle.kernel.specs.Scheduler.{pick, isReady, priorityOf, nextTask, isDue, isLimitDue, woken, spent, clocked, advanced, currentRuns, sliced, wants, wantsSwitch, dispatched, contextSaved, reloaded, saveContext}
+use Rattle.kernel.specs.Rank.{rank}
+use Rattle.kernel.specs.Scheduler.{isReady, nextTask, isDue, isLimitDue, woken, spent, clocked, advanced, currentRuns, sliced, wants, wantsSwitch, dispatched, contextSaved, reloaded, saveContext}
 use Rattle.kernel.specs.Scheduler
 use Rattle.kernel.specs.Calls.{Kind, plain, ticking, initNumber}
 use Rattle.kernel.proofs.Pick.{pick-lt}
+use Rattle.kernel.proofs.Rank.{rank-saved, rank-dispatched}
 use Rattle.kernel.proofs.Unlimited.{woken-ahead}
 use Rattle.kernel.proofs.Walk.{walked-beside, walked-before}
 use Rattle.kernel.proofs.Changes.{same, state, passed, saved, charged, Changes, carry, SlotChange, by}
 use Rattle.kernel.proofs.Owned.{Sound, empty-table, fresh-sound, change-sound}
-use Rattle.book_guarantees.specs.Turns.{PickedBy}
 use Rattle.book_guarantees.proofs.BestFirst.{clash, Rather, pick-is}
 use Rattle.book_guarantees.proofs.Fairness.{runs, Live, allowance, budget, some-tick, Tick, Other, Turn}
 use Rattle.book_guarantees.proofs.Kept.{SliceFits, IsOther, TaskKept, task-kept, reloaded-kept, each-kept, slices-kept, kept, NoLonger, no-longer}
@@ -206,13 +207,6 @@ saved-yielded sp a = either (Yielded a) (runs a) (λ e. record { rest = refl; re
 only : (l : List TaskControl) (s : ℕ) (u : TaskControl) → ((j : ℕ) → runs (getD l j blankSlot) ≡ false) → (j : ℕ) → runs (getD (set l s u) j blankSlot) ≡ true → j ≡ s
 only l s u f = set-each (λ j t. runs t ≡ true → j ≡ s) blankSlot l s u (λ _. refl) (λ j e. clash e (f j))
 
-pub by-priority : PickedBy priorityOf
-by-priority = record {
-  picks = λ k. refl;
-  saved = λ sp k j _. set-each (λ x t. t .priority .0 ≡ priorityOf k x) blankSlot (k .tasks) (current k) _ (ap (λ p. p .0) (task-kept (saved sp) .priority)) (λ x. refl) j;
-  run = λ k s _ _. set-each (λ x t. t .priority .0 ≡ priorityOf k x) blankSlot (k .tasks) s _ (ap (λ p. p .0) (reloaded-kept (slot k s) .1)) (λ x. refl) s;
-}
-
 module _ (sp : ℕ) (k : Kernel) (i : Invariant k) where
   at-pick : (j : ℕ) → Yielded (slot k j) (slot (saveContext sp k) j)
   at-pick j = go (ℕ-discrete j (current k)) (runs (slot k j)) refl
@@ -227,13 +221,13 @@ module _ (sp : ℕ) (k : Kernel) (i : Invariant k) where
   switch-only = only (saveContext sp k .tasks) _ _ (λ j. at-pick j .rest)
 
   -- a switch is a turn of the best slot
-  pub switch-turn : (rank : Kernel → ℕ → ℕ) → PickedBy rank → Invariant (Scheduler.switch sp k) → Turn rank k (nextTask (saveContext sp k)) (Scheduler.switch sp k)
+  pub switch-turn : Invariant (Scheduler.switch sp k) → Turn rank k (nextTask (saveContext sp k)) (Scheduler.switch sp k)
   unfolding Scheduler.switch
-  switch-turn rank p i′ = record {
+  switch-turn i′ = record {
     inside = pick-lt _ _ _;
-    best = λ j h v. omega (arith, rather j h v .best, p .saved sp k j h, same);
-    first = λ j h v e. rather j h v .first (omega (arith, e, p .saved sp k j h, same));
-    kept = λ j h v. p .run _ s (pick-lt _ _ _) (rather j h v .is) ∙ same;
+    best = λ j h v. omega (arith, rather j h v .best, rank-saved sp k j, rank-saved sp k s);
+    first = λ j h v e. rather j h v .first (omega (arith, e, rank-saved sp k j, rank-saved sp k s));
+    kept = λ j h v. rank-dispatched s (saveContext sp k) (rather j h v .is) s ∙ rank-saved sp k s;
     now = refl;
     slice = five-ticks i′;
   }
@@ -241,12 +235,8 @@ module _ (sp : ℕ) (k : Kernel) (i : Invariant k) where
       s : ℕ
       s = nextTask (saveContext sp k)
 
-      same : rank (saveContext sp k) s ≡ rank k s
-      same = p .saved sp k s (pick-lt _ _ _)
-
       rather : (j : ℕ) → j < 16 → Live (slot k j) → Rather (isReady (saveContext sp k)) (rank (saveContext sp k)) (current k) s j
-      rather j h v = subst (λ (x : ℕ). Rather (isReady (saveContext sp k)) (rank (saveContext sp k)) (current k) x j) (sym (p .picks (saveContext sp k)))
-          (pick-is (isReady (saveContext sp k)) (rank (saveContext sp k)) (current k) (i .sound .is .current-slot) j h (at-pick j .ready v))
+      rather j h v = pick-is (isReady (saveContext sp k)) (rank (saveContext sp k)) (current k) (i .sound .is .current-slot) j h (at-pick j .ready v)
 
 pub start-only : (k : Kernel) → Invariant k → k .started ≡ false → (j : ℕ) → runs (slot (Scheduler.start k) j) ≡ true → j ≡ nextTask k
 unfolding Scheduler.start

@@ -8,3 +8,4 @@ pub mod TurnGuarantee
 pub mod Wakings
 pub mod Limits
 pub mod Milliseconds
+pub mod Ranks

@@ -28,7 +28,7 @@ use Rattle.kernel.specs.Control.{inState, holdsTask, isLimit, hasLimit, objectF
 use Rattle.kernel.specs.Update.{withLimit}
 use Rattle.kernel.specs.WaitQueue.{contains, isFull, pushed, enqueued, placeWithout, without, isEmpty, head, popped, removed}
 use Rattle.kernel.specs.Kernel.{slot, current, semaphore, event, freshKernel}
-use Rattle.kernel.specs.Scheduler.{contextSaved, limited, isDue, isLimitDue, woken, priorityOf}
+use Rattle.kernel.specs.Scheduler.{contextSaved, limited, isDue, isLimitDue, woken}
 use Rattle.kernel.specs.Scheduler
 use Rattle.kernel.specs.Semaphore
 use Rattle.kernel.specs.Semaphore.{hasPermit}
@@ -43,7 +43,7 @@ use Rattle.kernel.proofs.Reached.{reached-by}
 use Rattle.book_guarantees.specs.Lists.{Entry, after, Each, Returned, end, Outcome, turn, tick as ticked, other, outcomeOf, outcome, acceptedTick, acceptedTicks}
 use Rattle.book_guarantees.specs.Limits.{lastTick, Limited, Waiting, AtTick, WithLimit, acquiring, waiting, Keeps, EndsWithin, LimitGuarantee}
 use Rattle.book_guarantees.proofs.Fairness.{runs}
-use Rattle.book_guarantees.proofs.Invariant.{by-priority, tick-slot}
+use Rattle.book_guarantees.proofs.Invariant.{tick-slot}
 use Rattle.book_guarantees.proofs.TurnGuarantee.{Fact, entry-fact, reached-invariant}
 use Rattle.book_guarantees.proofs.Wakings.{is-blocked, answers, accepts, of-step, told}
 
@@ -225,8 +225,8 @@ unfolding woken isLimitDue isDue holdsTask if_then_else_
 waits-on now t o l b d = rw (o, l, lt-leb (t .«limit_tick») now d, b)
 
 -- an entry that a list has after k
-fact : {k : Kernel} (e : Entry) → Reached k → e .answer ≡ step k (e .call) → Fact priorityOf k (outcome e) (after e)
-fact {k} e r s = entry-fact priorityOf by-priority k e (reached-invariant priorityOf by-priority r) s
+fact : {k : Kernel} (e : Entry) → Reached k → e .answer ≡ step k (e .call) → Fact k (outcome e) (after e)
+fact {k} e r s = entry-fact k e (reached-invariant r) s
 
 ticked-ahead : (k : Kernel) → Reached k → step k tick .number ≡ 0 → (i : ℕ) → Limited (step k tick .kernel) i → step k tick .kernel .«tick_count» < slot (step k tick .kernel) i .«limit_tick»
 unfolding outcome outcomeOf effect value if_then_else_

@@ -1,5 +1,5 @@
 -- The third sentence, proved: each call is a step of `Fairness` that keeps the invariant (`Fact`), so a list from fresh is a chain of such steps, and what
--- `Fairness` says of ticks is said of charges. For any rank that the pick goes by; then for the priority, which a present task keeps.
+-- `Fairness` says of ticks is said of charges. Where no mutex has a queue, ranks are priorities, which a present task keeps.
 use mathlib.Core.Path.{_≡_, refl, sym, ap, subst, _∙_}
 use mathlib.Core.Bool.{Bool, true, false}
 use mathlib.Core.List.{List, [], _∷_, _++_}
@@ -18,21 +18,23 @@ use Rattle.kernel.specs.declared.scheduler.Kernel.{Kernel}
 use Rattle.kernel.specs.declared.scheduler.Answer.{Answer}
 use Rattle.kernel.specs.Control.{blankSlot}
 use Rattle.kernel.specs.Kernel.{slot, charge, current}
-use Rattle.kernel.specs.Scheduler.{priorityOf, wantsSwitch}
+use Rattle.kernel.specs.Rank.{priorityOf, rank}
+use Rattle.kernel.specs.Scheduler.{wantsSwitch}
 use Rattle.kernel.specs.Scheduler
 use Rattle.kernel.specs.Calls.{Call, add, start, switch, current-id, status, block, sleep, wake, exit, wait, reap, reap-one, result, lock, try-lock, unlock, acquire, acquire-within, try-acquire, release, event-wait, event-wait-within, signal, list, ticks-to-ms, Kind, plain, kind, number, value, effect, valueNumber, step, init, initNumber, Reached}
 use Rattle.kernel.specs.Calls
 use Rattle.kernel.proofs.Accepted.{start-off, switch-on}
 use Rattle.kernel.proofs.Pick.{pick-lt}
+use Rattle.kernel.proofs.Rank.{rank-own}
 use Rattle.kernel.proofs.Changes.{Changes, none}
 use Rattle.kernel.proofs.MadeOf.{made-of}
 use Rattle.kernel.proofs.Reached.{init-kernel, reached}
 use Rattle.book_guarantees.specs.Lists.{Entry, after, Each, EachNext, Returned, end, Outcome, turn, tick, other, outcomeOf, outcome, AcceptedSwitch, turns, tickOf, ticksWhile, acceptedTick, sum}
-use Rattle.book_guarantees.specs.Turns.{Holds, Stays, Peer, Unchanging, Bounded, TurnGuarantee, PickedBy, TurnGuaranteeBy}
+use Rattle.book_guarantees.specs.Turns.{Holds, Stays, Stretch, Peer, Unchanging, Bounded, TurnGuarantee, TurnGuaranteeByPriority}
 use Rattle.book_guarantees.proofs.BestFirst.{clash}
 use Rattle.book_guarantees.proofs.Fairness.{IsTurn, answered, Step, Steps, At, each-at, fair}
 use Rattle.book_guarantees.proofs.Kept.{IsOther, priority-kept, kept}
-use Rattle.book_guarantees.proofs.Invariant.{Invariant, invariant-kept, fresh-invariant, five-ticks, other-invariant, other-step, LimitAhead, tick-clock, tick-ahead, tick-started, tick-invariant, tick-account, tick-tick, by-priority, switch-only, switch-turn, start-only}
+use Rattle.book_guarantees.proofs.Invariant.{Invariant, invariant-kept, fresh-invariant, five-ticks, other-invariant, other-step, LimitAhead, tick-clock, tick-ahead, tick-started, tick-invariant, tick-account, tick-tick, switch-only, switch-turn, start-only}
 
 no-turn : {A : Type 0} {s : ℕ} → other ≡ turn s → A
 no-turn q = let y : _≡_ {A = ℕ} 0 1 = cc in let o : ⊥ = omega (arith, y) in absurd o
@@ -56,137 +58,135 @@ yes-or-no false = refl
 
 -- ---- one call
 
-module _ (rank : Kernel → ℕ → ℕ) where
-  -- what an outcome v that leads from k to k′ is
-  pub record Fact (k : Kernel) (v : Outcome) (k′ : Kernel) : Type 0 where
-    pub invariant : Invariant k′
-    on : k .started ≡ true → k′ .started ≡ true
-    step : k .started ≡ true → Step rank k v k′
-    account : k .started ≡ true → (j : ℕ) → charge k′ j ≡ charge k j + tickOf j k v
-    begun : (s : ℕ) → v ≡ turn s → (current k′ ≡ s) × (s < 16) × (k′ .started ≡ true)
-    priority : (j : ℕ) → slot k j .occupied ≡ true → slot k′ j .occupied ≡ true → priorityOf k′ j ≡ priorityOf k j
-    -- tick_count rises by the accepted ticks, and with such a tick every limit lies ahead
-    pub clock : k′ .«tick_count» ≡ k .«tick_count» + acceptedTick v
-    pub ahead : (w : Bool) → v ≡ tick w → (j : ℕ) → j < 16 → LimitAhead (k′ .«tick_count») (slot k′ j)
+-- what an outcome v that leads from k to k′ is
+pub record Fact (k : Kernel) (v : Outcome) (k′ : Kernel) : Type 0 where
+  pub invariant : Invariant k′
+  on : k .started ≡ true → k′ .started ≡ true
+  step : k .started ≡ true → Step rank k v k′
+  account : k .started ≡ true → (j : ℕ) → charge k′ j ≡ charge k j + tickOf j k v
+  begun : (s : ℕ) → v ≡ turn s → (current k′ ≡ s) × (s < 16) × (k′ .started ≡ true)
+  priority : (j : ℕ) → slot k j .occupied ≡ true → slot k′ j .occupied ≡ true → priorityOf k′ j ≡ priorityOf k j
+  -- tick_count rises by the accepted ticks, and with such a tick every limit lies ahead
+  pub clock : k′ .«tick_count» ≡ k .«tick_count» + acceptedTick v
+  pub ahead : (w : Bool) → v ≡ tick w → (j : ℕ) → j < 16 → LimitAhead (k′ .«tick_count») (slot k′ j)
 
-  same-priority : {g : Kind} {k k′ : Kernel} → Changes g k k′ → (j : ℕ) → slot k j .occupied ≡ true → slot k′ j .occupied ≡ true → priorityOf k′ j ≡ priorityOf k j
-  same-priority cs j o p = ap (λ x. x .0) (priority-kept cs j o p)
+same-priority : {g : Kind} {k k′ : Kernel} → Changes g k k′ → (j : ℕ) → slot k j .occupied ≡ true → slot k′ j .occupied ≡ true → priorityOf k′ j ≡ priorityOf k j
+same-priority cs j o p = ap (λ x. x .0) (priority-kept cs j o p)
 
-  other-fact : {g : Kind} {k k′ : Kernel} → IsOther g → Invariant k → Changes g k k′ → Fact k other k′
-  other-fact x i cs = record {
-    invariant = other-invariant x cs i;
-    on = λ o. kept x cs .on ∙ o;
-    step = λ _. other-step x cs;
-    account = λ _ j. same-charge (kept x cs .charges) j;
-    begun = λ s e. no-turn e;
-    priority = same-priority cs;
-    clock = omega (arith, kept x cs .clock);
-    ahead = λ w e. no-tick e;
-  }
+other-fact : {g : Kind} {k k′ : Kernel} → IsOther g → Invariant k → Changes g k k′ → Fact k other k′
+other-fact x i cs = record {
+  invariant = other-invariant x cs i;
+  on = λ o. kept x cs .on ∙ o;
+  step = λ _. other-step x cs;
+  account = λ _ j. same-charge (kept x cs .charges) j;
+  begun = λ s e. no-turn e;
+  priority = same-priority cs;
+  clock = omega (arith, kept x cs .clock);
+  ahead = λ w e. no-tick e;
+}
 
-  module _ (p : PickedBy rank) where
-    accepted-fact : (k : Kernel) (c : Call) → Invariant k → number k c ≡ 0 → Changes (kind c) k (effect k c) → Fact k (outcomeOf (kind c) (value k c)) (effect k c)
-    unfolding outcomeOf value effect valueNumber Scheduler.start Scheduler.switch
-    accepted-fact k start i m cs =
-        let off = start-off k m in
-        let i′ : Invariant (Scheduler.start k) = invariant-kept cs i refl (λ j e. (start-only k i off j e, refl)) in
-        record {
-          invariant = i′;
-          on = λ _. refl;
-          step = λ o. clash o off;
-          account = λ _ j. omega arith;
-          begun = λ s e. let q = same-turn (pick-lt _ _ _) e in (q .0, q .1, refl);
-          priority = same-priority cs;
-          clock = omega arith;
-          ahead = λ w e. tick-no-turn (sym e);
-        }
-    accepted-fact k Calls.tick i m cs = record {
-      invariant = tick-invariant k cs i;
-      on = λ o. tick-started k ∙ o;
-      step = λ o. rw (yes-or-no (wantsSwitch k)) (tick-tick k i o);
-      account = λ o j. tick-account k i o j;
-      begun = λ s e. tick-no-turn e;
+accepted-fact : (k : Kernel) (c : Call) → Invariant k → number k c ≡ 0 → Changes (kind c) k (effect k c) → Fact k (outcomeOf (kind c) (value k c)) (effect k c)
+unfolding outcomeOf value effect valueNumber Scheduler.start Scheduler.switch
+accepted-fact k start i m cs =
+    let off = start-off k m in
+    let i′ : Invariant (Scheduler.start k) = invariant-kept cs i refl (λ j e. (start-only k i off j e, refl)) in
+    record {
+      invariant = i′;
+      on = λ _. refl;
+      step = λ o. clash o off;
+      account = λ _ j. omega arith;
+      begun = λ s e. let q = same-turn (pick-lt _ _ _) e in (q .0, q .1, refl);
       priority = same-priority cs;
-      clock = tick-clock k;
-      ahead = λ w _ j h. rw (tick-clock k) (tick-ahead k j h);
+      clock = omega arith;
+      ahead = λ w e. tick-no-turn (sym e);
     }
-    accepted-fact k (switch arena sp) i m cs =
-        let on = switch-on k arena sp m in
-        let i′ : Invariant (Scheduler.switch sp k) = invariant-kept cs i refl (λ j e. (switch-only sp k i j e, on)) in
-        record {
-          invariant = i′;
-          on = λ _. on;
-          step = λ _. switch-turn sp k i rank p i′;
-          account = λ _ j. omega arith;
-          begun = λ s e. let q = same-turn (pick-lt _ _ _) e in (q .0, q .1, on);
-          priority = same-priority cs;
-          clock = omega arith;
-          ahead = λ w e. tick-no-turn (sym e);
-        }
-    accepted-fact k (add arena q r) i m cs = other-fact tt i cs
-    accepted-fact k current-id i m cs = other-fact tt i cs
-    accepted-fact k (status s) i m cs = other-fact tt i cs
-    accepted-fact k block i m cs = other-fact tt i cs
-    accepted-fact k (sleep ticks) i m cs = other-fact tt i cs
-    accepted-fact k (wake a) i m cs = other-fact tt i cs
-    accepted-fact k exit i m cs = other-fact tt i cs
-    accepted-fact k (wait a) i m cs = other-fact tt i cs
-    accepted-fact k (reap a) i m cs = other-fact tt i cs
-    accepted-fact k reap-one i m cs = other-fact tt i cs
-    accepted-fact k (result a r) i m cs = other-fact tt i cs
-    accepted-fact k (lock n) i m cs = other-fact tt i cs
-    accepted-fact k (try-lock n) i m cs = other-fact tt i cs
-    accepted-fact k (unlock n) i m cs = other-fact tt i cs
-    accepted-fact k (acquire n) i m cs = other-fact tt i cs
-    accepted-fact k (acquire-within n ticks) i m cs = other-fact tt i cs
-    accepted-fact k (try-acquire n) i m cs = other-fact tt i cs
-    accepted-fact k (release n) i m cs = other-fact tt i cs
-    accepted-fact k (event-wait n) i m cs = other-fact tt i cs
-    accepted-fact k (event-wait-within n ticks) i m cs = other-fact tt i cs
-    accepted-fact k (signal n) i m cs = other-fact tt i cs
-    accepted-fact k (list arena records) i m cs = other-fact tt i cs
-    accepted-fact k (ticks-to-ms ticks) i m cs = other-fact tt i cs
+accepted-fact k Calls.tick i m cs = record {
+  invariant = tick-invariant k cs i;
+  on = λ o. tick-started k ∙ o;
+  step = λ o. rw (yes-or-no (wantsSwitch k)) (tick-tick k i o);
+  account = λ o j. tick-account k i o j;
+  begun = λ s e. tick-no-turn e;
+  priority = same-priority cs;
+  clock = tick-clock k;
+  ahead = λ w _ j h. rw (tick-clock k) (tick-ahead k j h);
+}
+accepted-fact k (switch arena sp) i m cs =
+    let on = switch-on k arena sp m in
+    let i′ : Invariant (Scheduler.switch sp k) = invariant-kept cs i refl (λ j e. (switch-only sp k i j e, on)) in
+    record {
+      invariant = i′;
+      on = λ _. on;
+      step = λ _. switch-turn sp k i i′;
+      account = λ _ j. omega arith;
+      begun = λ s e. let q = same-turn (pick-lt _ _ _) e in (q .0, q .1, on);
+      priority = same-priority cs;
+      clock = omega arith;
+      ahead = λ w e. tick-no-turn (sym e);
+    }
+accepted-fact k (add arena q r) i m cs = other-fact tt i cs
+accepted-fact k current-id i m cs = other-fact tt i cs
+accepted-fact k (status s) i m cs = other-fact tt i cs
+accepted-fact k block i m cs = other-fact tt i cs
+accepted-fact k (sleep ticks) i m cs = other-fact tt i cs
+accepted-fact k (wake a) i m cs = other-fact tt i cs
+accepted-fact k exit i m cs = other-fact tt i cs
+accepted-fact k (wait a) i m cs = other-fact tt i cs
+accepted-fact k (reap a) i m cs = other-fact tt i cs
+accepted-fact k reap-one i m cs = other-fact tt i cs
+accepted-fact k (result a r) i m cs = other-fact tt i cs
+accepted-fact k (lock n) i m cs = other-fact tt i cs
+accepted-fact k (try-lock n) i m cs = other-fact tt i cs
+accepted-fact k (unlock n) i m cs = other-fact tt i cs
+accepted-fact k (acquire n) i m cs = other-fact tt i cs
+accepted-fact k (acquire-within n ticks) i m cs = other-fact tt i cs
+accepted-fact k (try-acquire n) i m cs = other-fact tt i cs
+accepted-fact k (release n) i m cs = other-fact tt i cs
+accepted-fact k (event-wait n) i m cs = other-fact tt i cs
+accepted-fact k (event-wait-within n ticks) i m cs = other-fact tt i cs
+accepted-fact k (signal n) i m cs = other-fact tt i cs
+accepted-fact k (list arena records) i m cs = other-fact tt i cs
+accepted-fact k (ticks-to-ms ticks) i m cs = other-fact tt i cs
 
-    -- the invariant of every kernel from fresh
-    pub reached-invariant : {k : Kernel} → Reached k → Invariant k
-    reached-invariant = reached Invariant fresh-invariant (λ k c e i. accepted-fact k c i e (made-of k c e) .invariant)
+-- the invariant of every kernel from fresh
+pub reached-invariant : {k : Kernel} → Reached k → Invariant k
+reached-invariant = reached Invariant fresh-invariant (λ k c e i. accepted-fact k c i e (made-of k c e) .invariant)
 
-    -- an answer is what its call does on the kernel before it, refused or not
-    answer-fact : (k : Kernel) (c : Call) → Invariant k → Fact k (outcome (record { call = c; answer = step k c })) (step k c .kernel)
-    unfolding step outcome
-    answer-fact k c i =
-        either (λ (a : Answer). Fact k (if eqb (a .number) 0 then outcomeOf (kind c) (a .value) else other) (a .kernel)) (eqb (number k c) 0)
-        (λ q. either (λ (v : Outcome). Fact k v (effect k c)) (eqb 0 0) (λ _. let m = eqb-true (number k c) 0 q in accepted-fact k c i m (made-of k c m)) (λ r. clash refl r))
-        (λ q. either (λ (v : Outcome). Fact k v k) (eqb (number k c) 0) (λ r. clash r q) (λ _. other-fact {g = plain} tt i none))
+-- an answer is what its call does on the kernel before it, refused or not
+answer-fact : (k : Kernel) (c : Call) → Invariant k → Fact k (outcome (record { call = c; answer = step k c })) (step k c .kernel)
+unfolding step outcome
+answer-fact k c i =
+    either (λ (a : Answer). Fact k (if eqb (a .number) 0 then outcomeOf (kind c) (a .value) else other) (a .kernel)) (eqb (number k c) 0)
+    (λ q. either (λ (v : Outcome). Fact k v (effect k c)) (eqb 0 0) (λ _. let m = eqb-true (number k c) 0 q in accepted-fact k c i m (made-of k c m)) (λ r. clash refl r))
+    (λ q. either (λ (v : Outcome). Fact k v k) (eqb (number k c) 0) (λ r. clash r q) (λ _. other-fact {g = plain} tt i none))
 
-    pub entry-fact : (k : Kernel) (e : Entry) → Invariant k → e .answer ≡ step k (e .call) → Fact k (outcome e) (after e)
-    entry-fact k e i r = subst (λ (a : Answer). Fact k (outcome (record { call = e .call; answer = a })) (a .kernel)) (sym r) (answer-fact k (e .call) i)
+pub entry-fact : (k : Kernel) (e : Entry) → Invariant k → e .answer ≡ step k (e .call) → Fact k (outcome e) (after e)
+entry-fact k e i r = subst (λ (a : Answer). Fact k (outcome (record { call = e .call; answer = a })) (a .kernel)) (sym r) (answer-fact k (e .call) i)
 
-    -- ---- a list of calls
+-- ---- a list of calls
 
-    abbrev Chain : List Entry → Type 0
-    Chain es = EachNext (λ e f. Fact (after e) (outcome f) (after f)) es
+abbrev Chain : List Entry → Type 0
+Chain es = EachNext (λ e f. Fact (after e) (outcome f) (after f)) es
 
-    chain : (e : Entry) (es : List Entry) → Invariant (after e) → Returned (after e) es → Chain (e ∷ es)
-    chain e [] i r = tt
-    chain e (f ∷ fs) i r = let x = entry-fact (after e) f i (r .0) in (x, chain f fs (x .invariant) (r .1))
+chain : (e : Entry) (es : List Entry) → Invariant (after e) → Returned (after e) es → Chain (e ∷ es)
+chain e [] i r = tt
+chain e (f ∷ fs) i r = let x = entry-fact (after e) f i (r .0) in (x, chain f fs (x .invariant) (r .1))
 
-    -- from an entry of a list on
-    chain-from : (k : Kernel) (es : List Entry) (one : Entry) (fs : List Entry) → Invariant k → Returned k (es ++ one ∷ fs) → (k₀ : Kernel) × Fact k₀ (outcome one) (after one) × Chain (one ∷ fs)
-    chain-from k [] one fs i r = let x = entry-fact k one i (r .0) in (k, x, chain one fs (x .invariant) (r .1))
-    chain-from k (e ∷ es) one fs i r = chain-from (after e) es one fs (entry-fact k e i (r .0) .invariant) (r .1)
+-- from an entry of a list on
+chain-from : (k : Kernel) (es : List Entry) (one : Entry) (fs : List Entry) → Invariant k → Returned k (es ++ one ∷ fs) → (k₀ : Kernel) × Fact k₀ (outcome one) (after one) × Chain (one ∷ fs)
+chain-from k [] one fs i r = let x = entry-fact k one i (r .0) in (k, x, chain one fs (x .invariant) (r .1))
+chain-from k (e ∷ es) one fs i r = chain-from (after e) es one fs (entry-fact k e i (r .0) .invariant) (r .1)
 
-    -- the calls between and the second turn; a charge rises by the ticks made while its slot was current
-    record Between (e : Entry) (es : List Entry) (two : Entry) : Type 0 where
-      steps : Steps rank (e ∷ es)
-      second : Step rank (end (after e) es) (outcome two) (after two)
-      account : (j : ℕ) → charge (end (after e) es) j ≡ charge (after e) j + ticksWhile j (after e) es
+-- the calls between and the second turn; a charge rises by the ticks made while its slot was current
+record Between (e : Entry) (es : List Entry) (two : Entry) : Type 0 where
+  steps : Steps rank (e ∷ es)
+  second : Step rank (end (after e) es) (outcome two) (after two)
+  account : (j : ℕ) → charge (end (after e) es) j ≡ charge (after e) j + ticksWhile j (after e) es
 
-    between-of : (e : Entry) (es : List Entry) (two : Entry) (fs : List Entry) → after e .started ≡ true → Chain (e ∷ (es ++ two ∷ fs)) → Between e es two
-    between-of e [] two fs o c = record { steps = tt; second = c .0 .step o; account = λ j. omega arith }
-    between-of e (f ∷ es) two fs o c =
-        let x = between-of f es two fs (c .0 .on o) (c .1) in
-        record { steps = (c .0 .step o, x .steps); second = x .second; account = λ j. omega (arith, x .account j, c .0 .account o j) }
+between-of : (e : Entry) (es : List Entry) (two : Entry) (fs : List Entry) → after e .started ≡ true → Chain (e ∷ (es ++ two ∷ fs)) → Between e es two
+between-of e [] two fs o c = record { steps = tt; second = c .0 .step o; account = λ j. omega arith }
+between-of e (f ∷ es) two fs o c =
+    let x = between-of f es two fs (c .0 .on o) (c .1) in
+    record { steps = (c .0 .step o, x .steps); second = x .second; account = λ j. omega (arith, x .account j, c .0 .account o j) }
 
 switch-is-turn : (e : Entry) → AcceptedSwitch e → IsTurn (outcome e)
 unfolding outcome outcomeOf if_then_else_
@@ -227,8 +227,8 @@ init-invariant hz words e = subst Invariant (init-kernel hz words e) (fresh-inva
 
 -- ---- the sentence
 
-pub turn-guarantee-by : (rank : Kernel → ℕ → ℕ) → TurnGuaranteeBy rank
-turn-guarantee-by rank p hz words accepted before between rest one two returned i a s u = record {
+pub turn-guarantee : TurnGuarantee
+turn-guarantee hz words accepted before between rest one two returned i a s u = record {
   one-turn = λ j b q. f .0 j (inside j b q) (q .0 .another) (each-at rank r j b (one ∷ between) (q .0 .stayed) (subst (λ (x : ℕ). Each (λ e. rank (after e) j ≡ x) (one ∷ between)) (q .0 .equal) (refl, q .1)));
   ticks = bounded i (begun .1) inside (f .1);
   charges = bounded i (begun .1) inside (λ j h. omega (arith, f .1 j h, y .account j));
@@ -238,14 +238,14 @@ turn-guarantee-by rank p hz words accepted before between rest one two returned 
     r : ℕ
     r = rank (after one) i
 
-    c : (k : Kernel) × Fact rank k (outcome one) (after one) × Chain rank p (one ∷ (between ++ two ∷ rest))
-    c = chain-from rank p (init hz words .kernel) before one (between ++ two ∷ rest) (init-invariant hz words accepted) returned
+    c : (k : Kernel) × Fact k (outcome one) (after one) × Chain (one ∷ (between ++ two ∷ rest))
+    c = chain-from (init hz words .kernel) before one (between ++ two ∷ rest) (init-invariant hz words accepted) returned
 
     begun : (current (after one) ≡ i) × (i < 16) × (after one .started ≡ true)
     begun = c .1 .begun i (s .first-turn)
 
-    y : Between rank p one between two
-    y = between-of rank p one between two rest (begun .2) (c .2)
+    y : Between one between two
+    y = between-of one between two rest (begun .2) (c .2)
 
     inside : (j : ℕ) (b : TaskId) → Peer rank i one between j b × Unchanging rank j one between → j < 16
     inside j b q = occupied-inside (c .1 .invariant) j (q .0 .stayed .0 .present)
@@ -254,22 +254,42 @@ turn-guarantee-by rank p hz words accepted before between rest one two returned 
     f = fair rank i r (begun .1) between one (after two) (begun .0) (five-ticks (c .1 .invariant)) (y .steps) (each-at rank r i a (one ∷ between) (s .stays) (refl, u)) (s .neighbouring) (s .none-smaller)
         (answered switch-is-turn between two (s .followed)) (subst (λ (v : Outcome). Step rank (end (after one) between) v (after two)) (s .second-turn) (y .second))
 
+-- ---- where no mutex has a queue
+
 -- a task that stays keeps its priority
-stays-priority : (r j : ℕ) (a : TaskId) (e : Entry) (es fs : List Entry) → Chain priorityOf by-priority (e ∷ (es ++ fs)) → Each (λ x. Holds j a (after x)) (e ∷ es) → priorityOf (after e) j ≡ r
+stays-priority : (r j : ℕ) (a : TaskId) (e : Entry) (es fs : List Entry) → Chain (e ∷ (es ++ fs)) → Each (λ x. Holds j a (after x)) (e ∷ es) → priorityOf (after e) j ≡ r
     → Each (λ x. priorityOf (after x) j ≡ r) es
 stays-priority r j a e [] fs c h q = tt
 stays-priority r j a e (f ∷ es) fs c h q = let x = c .0 .priority j (h .0 .present) (h .1 .0 .present) ∙ q in (x, stays-priority r j a f es fs (c .1) (h .1) x)
 
+each-with : {P Q R : Entry → Type 0} → ((e : Entry) → P e → Q e → R e) → (es : List Entry) → Each P es → Each Q es → Each R es
+each-with f [] p q = tt
+each-with f (e ∷ es) p q = (f e (p .0) (q .0), each-with f es (p .1) (q .1))
+
 fewer : {P Q : ℕ → TaskId → Type 0} {i : ℕ} {n : ℕ → ℕ} → ((j : ℕ) (b : TaskId) → P j b → Q j b) → Bounded Q i n → Bounded P i n
 fewer f h = record { peers = λ j b q. h .peers j b (f j b q); own = h .own; others = h .others }
 
-pub turn-guarantee : TurnGuarantee
-turn-guarantee hz words accepted before between rest one two returned i a s =
-    let f = turn-guarantee-by priorityOf by-priority hz words accepted before between rest one two returned i a s (same i a (s .stays)) in
+pub turn-guarantee-by-priority : TurnGuaranteeByPriority
+turn-guarantee-by-priority hz words accepted before between rest one two returned empty i a s =
+    let f = turn-guarantee hz words accepted before between rest one two returned i a by-rank (same i a (s .stays)) in
     record { one-turn = λ j b q. f .one-turn j b (peer j b q); ticks = fewer peer (f .ticks); charges = fewer peer (f .charges); no-fall = f .no-fall }
   where
-    same : (j : ℕ) (b : TaskId) → Stays j b one between → Unchanging priorityOf j one between
-    same j b h = stays-priority _ j b one between (two ∷ rest) (chain-from priorityOf by-priority (init hz words .kernel) before one (between ++ two ∷ rest) (init-invariant hz words accepted) returned .2) h refl
+    own : (j : ℕ) → rank (after one) j ≡ priorityOf (after one) j
+    own = rank-own (after one) (empty .0)
 
-    peer : (j : ℕ) (b : TaskId) → Peer priorityOf i one between j b → Peer priorityOf i one between j b × Unchanging priorityOf j one between
-    peer j b q = (q, same j b (q .stayed))
+    by-rank : Stretch rank i a one between two
+    by-rank = record {
+      first-turn = s .first-turn;
+      second-turn = s .second-turn;
+      neighbouring = s .neighbouring;
+      stays = s .stays;
+      none-smaller = each-with (λ e z h t q. let l = h t q in omega (arith, l, own i, rank-own (after e) z t)) between (empty .1) (s .none-smaller);
+      followed = s .followed;
+    }
+
+    same : (j : ℕ) (b : TaskId) → Stays j b one between → Unchanging rank j one between
+    same j b h = each-with (λ e z q. rank-own (after e) z j ∙ q ∙ sym (own j)) between (empty .1)
+        (stays-priority _ j b one between (two ∷ rest) (chain-from (init hz words .kernel) before one (between ++ two ∷ rest) (init-invariant hz words accepted) returned .2) h refl)
+
+    peer : (j : ℕ) (b : TaskId) → Peer priorityOf i one between j b → Peer rank i one between j b × Unchanging rank j one between
+    peer j b q = (record { another = q .another; equal = own j ∙ q .equal ∙ sym (own i); stayed = q .stayed }, same j b (q .stayed))

@@ -4,3 +4,4 @@ pub mod Turns
 pub mod Wakings
 pub mod Limits
 pub mod Milliseconds
+pub mod Ranks

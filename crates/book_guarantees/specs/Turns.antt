@@ -1,4 +1,4 @@
--- The book's third sentence, clause by clause, in 01's words; and the same for any rank that the pick goes by in place of the priority number.
+-- The book's third sentence, clause by clause, in 01's words, by rank as 02 has it (W-205); and as 01 has it, by priority number, where no mutex has a queue.
 use mathlib.Core.Path.{_≡_}
 use mathlib.Core.Bool.{true}
 use mathlib.Core.List.{List, [], _∷_, _++_}
@@ -9,8 +9,8 @@ use Rattle.base.specs.Choice.{if_then_else_}
 use Rattle.kernel.specs.declared.control.TaskId.{TaskId}
 use Rattle.kernel.specs.declared.control.TaskState.the-variants.{Ready, Running}
 use Rattle.kernel.specs.declared.scheduler.Kernel.{Kernel}
-use Rattle.kernel.specs.Kernel.{slot, charge, current}
-use Rattle.kernel.specs.Scheduler.{pick, isReady, priorityOf, nextTask, dispatched, reloaded, saveContext}
+use Rattle.kernel.specs.Kernel.{slot, charge}
+use Rattle.kernel.specs.Rank.{priorityOf, noQueues, rank}
 use Rattle.kernel.specs.Calls.{init, initNumber}
 use Rattle.book_guarantees.specs.Lists.{Entry, after, Each, EachNext, Returned, end, turn, tick, outcome, AcceptedSwitch, turns, ticksWhile, sum}
 
@@ -30,28 +30,28 @@ Stays j a one between = Each (λ e. Holds j a (after e)) (one ∷ between)
 abbrev pub rise : ℕ → Entry → List Entry → ℕ
 rise j one between = charge (end (after one) between) j - charge (after one) j
 
--- `rank k j` is what slot j's task goes by in kernel k, smaller is better: its priority number, or any other rank.
-module _ (rank : Kernel → ℕ → ℕ) where
+-- `number k j` is what slot j's task goes by in kernel k, smaller is better: its rank, or its priority number.
+module _ (number : Kernel → ℕ → ℕ) where
   -- "Let a task stay Ready or Running between two neighbouring turns of its own. Let no task with a smaller priority number have a turn between, and let
   -- each tick between that wants a switch be followed next by an accepted switch": task a of slot i, from turn `one` to turn `two`. A picked
-  -- task's rank is read after its turn, the first task's after the first turn.
+  -- task's number is read after its turn, the first task's after the first turn.
   pub record Stretch (i : ℕ) (a : TaskId) (one : Entry) (between : List Entry) (two : Entry) : Type 0 where
     pub first-turn : outcome one ≡ turn i
     pub second-turn : outcome two ≡ turn i
     pub neighbouring : Each (λ e. outcome e ≢ turn i) between
     pub stays : Stays i a one between
-    pub none-smaller : Each (λ e. (s : ℕ) → outcome e ≡ turn s → rank (after one) i ≤ rank (after e) s) between
+    pub none-smaller : Each (λ e. (s : ℕ) → outcome e ≡ turn s → number (after one) i ≤ number (after e) s) between
     pub followed : EachNext (λ e f. outcome e ≡ tick true → AcceptedSwitch f) (between ++ two ∷ [])
 
-  -- "every other task of equal priority that stayed Ready or Running too": task b of slot j, its rank read after the first turn
+  -- "every other task of equal priority that stayed Ready or Running too": task b of slot j, its number read after the first turn
   pub record Peer (i : ℕ) (one : Entry) (between : List Entry) (j : ℕ) (b : TaskId) : Type 0 where
     pub another : j ≢ i
-    pub equal : rank (after one) j ≡ rank (after one) i
+    pub equal : number (after one) j ≡ number (after one) i
     pub stayed : Stays j b one between
 
-  -- slot j has the same rank after the first turn and after each call between
+  -- "unchanging .. from one turn to the next": slot j's number is the same after the first turn and after each call between
   abbrev pub Unchanging : ℕ → Entry → List Entry → Type 0
-  Unchanging j one between = Each (λ e. rank (after e) j ≡ rank (after one) j) between
+  Unchanging j one between = Each (λ e. number (after e) j ≡ number (after one) j) between
 
 -- n j is what is counted of slot j: at most 5 of a peer's slot, at most 5 of the first task's, i, and at most 75 of all other slots together. `Peers j b` says
 -- that task b of slot j is a peer.
@@ -77,19 +77,12 @@ InEveryList P =
     → (before between rest : List Entry) (one two : Entry) → Returned (init hz words .kernel) (before ++ one ∷ (between ++ two ∷ rest))
     → P one between two
 
+-- "Tasks with equal, unchanging rank from one turn to the next are those whom the fairness sentence covers, and a smaller rank takes the place of a smaller number" (02, W-205)
 abbrev pub TurnGuarantee : Type 0
-TurnGuarantee = InEveryList (λ one between two. (i : ℕ) (a : TaskId) → Stretch priorityOf i a one between two → Fair (Peer priorityOf i one between) i one between)
-
--- ---- the same for another rank
-
--- the pick goes by it, and neither saving the context nor running the picked task alters it
-pub record PickedBy (rank : Kernel → ℕ → ℕ) : Type 0 where
-  pub picks : (k : Kernel) → nextTask k ≡ pick (isReady k) (rank k) (current k)
-  pub saved : (sp : ℕ) (k : Kernel) (j : ℕ) → j < 16 → rank (saveContext sp k) j ≡ rank k j
-  pub run : (k : Kernel) (s : ℕ) → s < 16 → isReady k s ≡ true → rank (dispatched s reloaded k) s ≡ rank k s
-
--- of tasks with equal, unchanging rank, where the pick goes by it: the ranks of the first task and of its peer are one number after the first turn and after each
--- call between.
-abbrev pub TurnGuaranteeBy : (Kernel → ℕ → ℕ) → Type 0
-TurnGuaranteeBy rank = PickedBy rank → InEveryList (λ one between two. (i : ℕ) (a : TaskId) → Stretch rank i a one between two → Unchanging rank i one between
+TurnGuarantee = InEveryList (λ one between two. (i : ℕ) (a : TaskId) → Stretch rank i a one between two → Unchanging rank i one between
     → Fair (λ j b. Peer rank i one between j b × Unchanging rank j one between) i one between)
+
+-- Where no mutex has a queue after the first turn and after each call between, the sentence is 01's: by priority number, which a task keeps.
+abbrev pub TurnGuaranteeByPriority : Type 0
+TurnGuaranteeByPriority = InEveryList (λ one between two. Each (λ e. noQueues (after e) ≡ true) (one ∷ between)
+    → (i : ℕ) (a : TaskId) → Stretch priorityOf i a one between two → Fair (Peer priorityOf i one between) i one between)

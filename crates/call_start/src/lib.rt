@@ -1,4 +1,5 @@
 // Start: sched/scheduler.rs of the source.
+use kernel::control::SlotIndex;
 use kernel::control::TaskState;
 use kernel::scheduler::Answer;
 use kernel::scheduler::Kernel;
@@ -8,6 +9,7 @@ ghost use mathlib.Core.Path.{_≡_};
 ghost use Prim.Native.Nat.{_<_};
 ghost use Rattle.kernel.specs.Calls.{start, number, value, effect, accepted, step};
 ghost use Rattle.kernel.specs.Kernel.{current, whole};
+ghost use Rattle.kernel.specs.Scheduler.{nextTask};
 
 pub mod internal;
 
@@ -19,11 +21,23 @@ fn start_number(k: Kernel, is_whole: bool) -> u8
     answer::refuse_if(!is_whole, 1, answer::refuse_if(k.started, 3, 0))
 }
 
+// The slot that is picked. Where no mutex has a queue each rank is the own number, and the pick by number is the pick. In both callers of the pick alike: the compiler takes it
+// into them, and does not copy the kernel for it.
+fn picked(k: Kernel) -> SlotIndex
+    requires { ⌜ current k < 16 ⌝ }
+    ensures { λ r. ⌜ (r .0 ≡ nextTask k) × (r .0 < 16) ⌝ }
+{
+    if leaf_rank::internal::no_queues(k) {
+        return pick::internal::next_by_number(k);
+    }
+    pick::internal::next_task(k)
+}
+
 fn started(mut k: Kernel) -> Answer
     requires { ⌜ current k < 16 ⌝ }
     ensures { λ r. ⌜ r ≡ accepted (value k start) (effect k start) ⌝ }
 {
-    let slot = pick::internal::next_task(k);
+    let slot = picked(k);
     let i = slot.0;
     let t = k.tasks[i];
     let next = t.entered(TaskState::Running);

@@ -1,4 +1,5 @@
 // Switch: sched/scheduler.rs of the source.
+use kernel::control::SlotIndex;
 use kernel::control::StackRegion;
 use kernel::control::TaskControl;
 use kernel::control::TaskState;
@@ -14,7 +15,7 @@ ghost use Rattle.base.specs.Choice.{if_then_else_};
 ghost use Rattle.kernel.specs.Control.{spInRange, stackGuardOk};
 ghost use Rattle.kernel.specs.Kernel.{current, whole};
 ghost use Rattle.kernel.specs.Scheduler;
-ghost use Rattle.kernel.specs.Scheduler.{contextSaved, saveContext, reloaded};
+ghost use Rattle.kernel.specs.Scheduler.{contextSaved, saveContext, reloaded, nextTask};
 ghost use Rattle.kernel.specs.Calls.{switch, number, accepted, picked, step};
 
 pub mod internal;
@@ -89,6 +90,18 @@ fn reloaded(mut t: TaskControl) -> TaskControl
     t
 }
 
+// The slot that is picked. Where no mutex has a queue each rank is the own number, and the pick by number is the pick. In both callers of the pick alike: the compiler takes it
+// into them, and does not copy the kernel for it.
+fn picked(k: Kernel) -> SlotIndex
+    requires { ⌜ current k < 16 ⌝ }
+    ensures { λ r. ⌜ (r .0 ≡ nextTask k) × (r .0 < 16) ⌝ }
+{
+    if leaf_rank::internal::no_queues(k) {
+        return pick::internal::next_by_number(k);
+    }
+    pick::internal::next_task(k)
+}
+
 fn switched(mut k: Kernel, sp: u32) -> Answer
     requires { ⌜ current k < 16 ⌝ }
     ensures { λ r. ⌜ r ≡ accepted (picked (saveContext sp k)) (Scheduler.switch sp k) ⌝ }
@@ -96,7 +109,7 @@ fn switched(mut k: Kernel, sp: u32) -> Answer
     let c = k.current.0;
     let saved = context_saved(k.tasks[c], sp);
     k.tasks[c] = saved;
-    let slot = pick::internal::next_task(k);
+    let slot = picked(k);
     let i = slot.0;
     let t = k.tasks[i];
     let next = reloaded(t).entered(TaskState::Running);

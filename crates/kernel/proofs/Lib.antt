@@ -1,5 +1,6 @@
 pub mod Queue
 pub mod Pick
+pub mod Rank
 pub mod Whole
 pub mod Timer
 pub mod Step

@@ -16,7 +16,8 @@ use Rattle.kernel.specs.Update.{withTasks}
 use Rattle.kernel.specs.Control.{stateNumber, inState, stateOf, holdsTask, entered, hasLimit, objectFits, unblocked, blankSlot}
 use Rattle.kernel.specs.WaitQueue.{contains, isEmpty, head, popped}
 use Rattle.kernel.specs.Kernel.{slot, at, current, currentTask, currentId, slotOf, isPresent, atId, mutex, semaphore, event, withMutex}
-use Rattle.kernel.specs.Scheduler.{slotAfter, isBest, distance, pick, isReady, priorityOf, nextTask, wakeTick, wakeWaiter, terminated, wakes, Waking, dropHeads, wakeOne, reapableSlot, ownedUp, ownedDown, isDue, isLimitDue, woken, unqueued, visited, walked, spent, clocked, advanced, currentRuns, sliced, contextSaved, saveContext}
+use Rattle.kernel.specs.Rank.{rank}
+use Rattle.kernel.specs.Scheduler.{slotAfter, isBest, distance, pick, isReady, nextTask, wakeTick, wakeWaiter, terminated, wakes, Waking, dropHeads, wakeOne, reapableSlot, ownedUp, ownedDown, isDue, isLimitDue, woken, unqueued, visited, walked, spent, clocked, advanced, currentRuns, sliced, contextSaved, saveContext}
 use Rattle.kernel.specs.Scheduler
 use Rattle.kernel.specs.Mutex
 use Rattle.kernel.specs.Mutex.{ownsMutex, isHanded}
@@ -134,8 +135,8 @@ heads f a {g} k w q e (suc n) r c =
 pick-occupied : (k : Kernel) → slot k 0 .occupied ≡ true → slot k (nextTask k) .occupied ≡ true
 unfolding pick isBest holdsTask
 pick-occupied k idle =
-    either (λ i. slot k i .occupied ≡ true) (ltb (distance (isReady k) (priorityOf k) (current k)) 16)
-    (λ e. and-left _ _ (and-left _ _ (lowest-is (λ n. isBest (isReady k) (priorityOf k) (slotAfter (current k) n)) 16 (ltb-true _ _ e))))
+    either (λ i. slot k i .occupied ≡ true) (ltb (distance (isReady k) (rank k) (current k)) 16)
+    (λ e. and-left _ _ (and-left _ _ (lowest-is (λ n. isBest (isReady k) (rank k) (slotAfter (current k) n)) 16 (ltb-true _ _ e))))
     (λ _. idle)
 
 saved-occupied : (sp : ℕ) (t : TaskControl) → contextSaved sp t .occupied ≡ t .occupied

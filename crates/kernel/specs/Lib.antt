@@ -4,6 +4,7 @@ pub mod Update
 pub mod Control
 pub mod WaitQueue
 pub mod Kernel
+pub mod Rank
 pub mod Scheduler
 pub mod Mutex
 pub mod Semaphore

@@ -11,6 +11,7 @@ use Rattle.kernel.specs.Update.{withLimit, withWakeTick, withRemaining, 
 use Rattle.kernel.specs.Control.{inState, holdsTask, hasLimit, entered, expired, unblocked, blankSlot, newTask, regionsOverlap}
 use Rattle.kernel.specs.WaitQueue.{head, popped, removed}
 use Rattle.kernel.specs.Kernel.{slot, charge, at, current, currentTask, currentId, slotOf, isPresent, atId, semaphore, event, withSemaphore, withEvent}
+use Rattle.kernel.specs.Rank.{rank}
 
 -- ---- next_task
 
@@ -18,11 +19,11 @@ use Rattle.kernel.specs.Kernel.{slot, charge, at, current, currentTask, 
 abbrev pub slotAfter : ℕ → ℕ → ℕ
 slotAfter c n = (c + 1 + n) % 16
 
--- Over which slots are Ready and what rank each has, so that the kernel's pick and the exported one are instances.
-module _ (ready : ℕ → Bool) (rank : ℕ → ℕ) where
-  -- slot i is Ready, and no Ready slot has a smaller rank
+-- Over which slots are Ready and what number each goes by, so that the kernel's pick, by rank, and the exported one are instances.
+module _ (ready : ℕ → Bool) (number : ℕ → ℕ) where
+  -- slot i is Ready, and no Ready slot has a smaller number
   unfoldable pub isBest : ℕ → Bool
-  isBest i = ready i && allBelow (λ j. not (ready j && ltb (rank j) (rank i))) 16
+  isBest i = ready i && allBelow (λ j. not (ready j && ltb (number j) (number i))) 16
 
   -- how far on the first such slot is; 16 where none is Ready
   abbrev pub distance : ℕ → ℕ
@@ -35,11 +36,9 @@ module _ (ready : ℕ → Bool) (rank : ℕ → ℕ) where
 abbrev pub isReady : Kernel → ℕ → Bool
 isReady k i = holdsTask Ready (slot k i)
 
-abbrev pub priorityOf : Kernel → ℕ → ℕ
-priorityOf k i = slot k i .priority .0
-
+-- "the pick goes by rank" (02, W-205)
 abbrev pub nextTask : Kernel → ℕ
-nextTask k = pick (isReady k) (priorityOf k) (current k)
+nextTask k = pick (isReady k) (rank k) (current k)
 
 -- ---- state calls
 

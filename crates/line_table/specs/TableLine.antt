@@ -1,14 +1,16 @@
 -- The line that `tables` prints for a kernel: the whole table in decimal.
 use Prim.Native.Nat.{ℕ, suc}
-use mathlib.Core.Bool.{true}
+use mathlib.Core.Bool.{Bool, true}
 use mathlib.Core.List.{List, [], _∷_, _++_}
 use lib.IntN.{ℤ, pos, negsuc}
+use Rattle.base.specs.Choice.{if_then_else_}
 use Rattle.kernel.specs.declared.control.LimitObject.{LimitObject}
 use Rattle.kernel.specs.declared.control.LimitObject.the-variants.{NoLimit, AtSemaphore, AtEvent}
 use Rattle.kernel.specs.declared.control.TaskControl.{TaskControl}
 use Rattle.kernel.specs.declared.scheduler.Kernel.{Kernel}
 use Rattle.kernel.specs.Control.{stateNumber}
 use Rattle.kernel.specs.Kernel.{slot, charge, current, mutex, semaphore, event}
+use Rattle.kernel.specs.Rank.{rank}
 use Rattle.line_text.specs.Text.{decimal}
 use Rattle.line_objects.specs.ObjectsLine.{joined, comma, flag, idText, bar, mutexText, semaphoreText, eventText, objectsText}
 
@@ -64,6 +66,15 @@ limitText i t = decimal i ++ keptText (t .«limit_object») (t .«limit_tick») 
 unfoldable pub limitsText : Kernel → List ℕ
 limitsText k = joined 59 (λ i. slot k i .occupied) (λ i. limitText i (slot k i)) 16
 
+-- ---- ranks
+
+-- `-` for an empty slot
+unfoldable pub rankText : Bool → ℕ → List ℕ
+rankText occupied number = if occupied then decimal number else 45 ∷ []
+
+unfoldable pub ranksText : Kernel → List ℕ
+ranksText k = joined 44 (λ i. true) (λ i. rankText (slot k i .occupied) (rank k i)) 16
+
 -- ---- the line
 
 unfoldable pub tableLine : Kernel → List ℕ
@@ -72,4 +83,4 @@ tableLine k =
     ++ bar ++ objectsText (λ i. mutexText (mutex k i))
     ++ bar ++ objectsText (λ i. semaphoreText (semaphore k i))
     ++ bar ++ objectsText (λ i. eventText (event k i))
-    ++ bar ++ chargesText k ++ bar ++ limitsText k ++ (10 ∷ [])
+    ++ bar ++ chargesText k ++ bar ++ limitsText k ++ bar ++ ranksText k ++ (10 ∷ [])

@@ -18,7 +18,7 @@ ghost use Rattle.base.specs.Choice.{if_then_else_};
 ghost use Rattle.kernel.specs.Control.{stateNumber};
 ghost use Rattle.line_text.specs.Text.{Writes, decimal};
 ghost use Rattle.line_objects.specs.ObjectsLine.{bar};
-ghost use Rattle.line_table.specs.TableLine.{field, signed, slotText, slotsText, schedulerText, chargesText, keptText, limitText, limitsText, tableLine};
+ghost use Rattle.line_table.specs.TableLine.{field, signed, slotText, slotsText, schedulerText, chargesText, keptText, limitText, limitsText, rankText, ranksText, tableLine};
 
 // ---- pieces
 
@@ -246,22 +246,62 @@ fn put_limits(out: &mut [u8], at: usize, k: Kernel) -> usize
     n
 }
 
-fn put_charges_and_limits(out: &mut [u8], at: usize, k: Kernel) -> usize
+// ---- ranks
+
+// `-` for an empty slot.
+fn put_rank(out: &mut [u8], at: usize, occupied: bool, rank: u8) -> usize
+    requires { ⌜ at + 20 ≤ length (now out) ⌝ }
+    ensures { λ r. ⌜ Writes (now (out .entry)) at (rankText occupied rank) (now (out .exit)) r ⌝ }
+    ensures short { λ r. ⌜ r ≤ at + 20 ⌝ }
+{
+    if occupied {
+        return put_decimal(out, at, rank as u64);
+    }
+    put(out, at, b'-')
+}
+
+fn put_ranks(out: &mut [u8], at: usize, k: Kernel) -> usize
+    requires { ⌜ at + 336 ≤ length (now out) ⌝ }
+    ensures { λ r. ⌜ Writes (now (out .entry)) at (ranksText k) (now (out .exit)) r ⌝ }
+    ensures short { λ r. ⌜ r ≤ at + 336 ⌝ }
+{
+    let ranks = leaf_rank::internal::ranks(k);
+    let mut n = at;
+    for i in 0..Kernel::MAX_TASKS {
+        n = put_between(out, n, 0 < i, b',');
+        n = put_rank(out, n, k.tasks[i].occupied, ranks[i]);
+    }
+    n
+}
+
+// ---- what 02 adds to the line, after the charges
+
+fn put_limits_and_ranks(out: &mut [u8], at: usize, k: Kernel) -> usize
     requires { ⌜ at + 1411 ≤ length (now out) ⌝ }
-    ensures { λ r. ⌜ Writes (now (out .entry)) at (chargesText k ++ bar ++ limitsText k) (now (out .exit)) r ⌝ }
+    ensures { λ r. ⌜ Writes (now (out .entry)) at (limitsText k ++ bar ++ ranksText k) (now (out .exit)) r ⌝ }
     ensures short { λ r. ⌜ r ≤ at + 1411 ⌝ }
+{
+    let mut n = put_limits(out, at, k);
+    n = put_bar(out, n);
+    put_ranks(out, n, k)
+}
+
+fn put_charges_and_added(out: &mut [u8], at: usize, k: Kernel) -> usize
+    requires { ⌜ at + 1750 ≤ length (now out) ⌝ }
+    ensures { λ r. ⌜ Writes (now (out .entry)) at (chargesText k ++ bar ++ limitsText k ++ bar ++ ranksText k) (now (out .exit)) r ⌝ }
+    ensures short { λ r. ⌜ r ≤ at + 1750 ⌝ }
 {
     let mut n = put_charges(out, at, k);
     n = put_bar(out, n);
-    put_limits(out, n, k)
+    put_limits_and_ranks(out, n, k)
 }
 
 // ---- the line
 
 pub fn put_table(out: &mut [u8], at: usize, k: Kernel) -> usize
-    requires { ⌜ at + 8300 ≤ length (now out) ⌝ }
+    requires { ⌜ at + 8639 ≤ length (now out) ⌝ }
     ensures { λ r. ⌜ Writes (now (out .entry)) at (tableLine k) (now (out .exit)) r ⌝ }
-    ensures short { λ r. ⌜ r ≤ at + 8300 ⌝ }
+    ensures short { λ r. ⌜ r ≤ at + 8639 ⌝ }
 {
     let mut n = put_slots(out, at, k);
     n = put_bar(out, n);
@@ -269,6 +309,6 @@ pub fn put_table(out: &mut [u8], at: usize, k: Kernel) -> usize
     n = put_bar(out, n);
     n = put_objects(out, n, k);
     n = put_bar(out, n);
-    n = put_charges_and_limits(out, n, k);
+    n = put_charges_and_added(out, n, k);
     put(out, n, b'\n')
 }

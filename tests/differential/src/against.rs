@@ -50,11 +50,12 @@ fn cut(line: &[u8]) -> (&[u8], &[u8]) {
     }
 }
 
-/// A line of `tables` without its last two parts, the charges and the limits,
-/// and the limits.
-fn table(line: &[u8]) -> (&[u8], &[u8]) {
+/// A line of `tables` without its last three parts, the charges, the limits and
+/// the ranks; the limits; and the ranks.
+fn table(line: &[u8]) -> (&[u8], &[u8], &[u8]) {
+    let (line, ranks) = cut(line);
     let (line, limits) = cut(line);
-    (cut(line).0, limits)
+    (cut(line).0, limits, ranks)
 }
 
 /// The limits of a list without a limited wait: none, and no mark.
@@ -62,6 +63,12 @@ fn no_limits(tables: &Tables) -> Vec<u8> {
     let occupied = (0..SLOTS).filter(|&at| tables.slots[at].is_some());
     let texts: Vec<String> = occupied.map(|at| format!("{at},-,-,-,0")).collect();
     texts.join(";").into_bytes()
+}
+
+/// The ranks of a list in which no mutex has a queue: each the own number.
+fn own_numbers(tables: &Tables) -> Vec<u8> {
+    let own = |slot: Option<Slot>| slot.map_or("-".into(), |slot| slot.priority.to_string());
+    tables.slots.map(own).join(",").into_bytes()
 }
 
 /// The first call, counted from 0, whose answer or table is not the same, with
@@ -85,13 +92,17 @@ fn difference(list: &[Call], got: &[u8]) -> Option<(usize, String, String)> {
             return Some((at, text(&want), text(line)));
         }
         let line = got_lines.next().unwrap_or(b"");
-        let (got_table, got_limits) = table(line);
+        let (got_table, got_limits, got_ranks) = table(line);
         if got_table != want_table {
             return Some((at, text(&want_table), text(line)));
         }
         let want_limits = no_limits(&tables());
         if got_limits != want_limits {
             return Some((at, text(&want_limits), text(line)));
+        }
+        let want_ranks = own_numbers(&tables());
+        if got_ranks != want_ranks {
+            return Some((at, text(&want_ranks), text(line)));
         }
     }
 

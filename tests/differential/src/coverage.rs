@@ -44,6 +44,8 @@ pub struct Coverage {
     // Of the list so far.
     hz: u32,
     words: Vec<Word>,
+    /// Who owned each mutex last.
+    owners: [Option<u32>; OBJECTS],
     last: u8,
 }
 
@@ -57,6 +59,7 @@ impl Coverage {
             listed: [0; SLOTS + 1],
             hz: HZ,
             words: vec![Kept; WORDS],
+            owners: [None; OBJECTS],
             last: 0,
         }
     }
@@ -65,6 +68,7 @@ impl Coverage {
         self.lists += 1;
         self.hz = HZ;
         self.words.fill(Kept);
+        self.owners = [None; OBJECTS];
         self.last = 0;
     }
 
@@ -90,9 +94,13 @@ impl Coverage {
             }
             FRESH => {
                 self.hz = call.y;
+                self.owners = [None; OBJECTS];
                 self.paint((0, after.slots[0].expect("idle").size));
             }
             _ => {}
+        }
+        for (owner, mutex) in self.owners.iter_mut().zip(after.mutexes) {
+            *owner = mutex.owner.or(*owner);
         }
         self.last = call.op;
     }
@@ -111,7 +119,6 @@ impl Coverage {
 
         // A queue before and after, where the call is about one.
         let queues = match call.op {
-            LOCK | UNLOCK => Some((before.mutexes[at].queue, after.mutexes[at].queue)),
             ACQUIRE | RELEASE => Some((before.semaphores[at].1, after.semaphores[at].1)),
             EVENT_WAIT | SIGNAL => Some((before.events[at].1, after.events[at].1)),
             _ => None,
@@ -196,24 +203,20 @@ impl Coverage {
                 case("wake, unknown", state.is_none());
             }
             LOCK => {
-                let mutex = before.mutexes[at];
-                case("lock, free", value == 1 && !mutex.locked);
-                case("lock, handoff taken up", value == 1 && mutex.locked);
-                case("lock blocks", value == 0);
-                case("lock blocks, another's handoff pending", value == 0
-                    && mutex.handoff_to.is_some());
+                // In the domain none blocks, so no mutex is handed on.
+                case("lock, free", value == 1);
+                case("lock, another's before", self.owners[at].is_some_and(|id| id != own.id));
+                case("lock while owner of another", own.owned > 0);
             }
-            TRY_LOCK => case("try lock, owner's own", before.mutexes[at].owner == Some(own.id)),
+            TRY_LOCK => {
+                let owner = before.mutexes[at].owner;
+                case("try lock, yes", value == 1);
+                case("try lock, owner's own", owner == Some(own.id));
+                case("try lock, another's", value == 0 && owner != Some(own.id));
+            }
             UNLOCK => {
-                let next = head.map(find);
-                case("unlock, no waiter", next.is_none());
-                case("unlock hands to a Blocked task",
-                    matches!(next, Some(Some(slot)) if slot.state == 2));
-                case("unlock hands to a task not Blocked",
-                    matches!(next, Some(Some(slot)) if slot.state != 2));
-                case("unlock hands to a task that is gone", matches!(next, Some(None)));
-                case("unlock, own handoff never taken up",
-                    before.mutexes[at].handoff_to == Some(own.id));
+                case("unlock", value == 0 && !after.mutexes[at].locked);
+                case("unlock while owner of another", own.owned > 1);
             }
             RELEASE | SIGNAL => {
                 // A head is Blocked in the domain.
@@ -238,9 +241,9 @@ impl Coverage {
             }
             SLEEP => {
                 case("sleep 0", call.y == 0);
-                case("sleep of a queued task", before.mutexes.iter().any(|mutex| {
-                    mutex.queue.ids().contains(&own.id)
-                }));
+                case("sleep of a queued task",
+                    before.semaphores.iter().any(|(_, queue)| queue.ids().contains(&own.id))
+                        || before.events.iter().any(|(_, queue)| queue.ids().contains(&own.id)));
                 let (other, of_ms) = (self.hz != HZ, call.y as u64 * self.hz as u64);
                 case("sleep at another hz, rounded up", other && of_ms % 1000 != 0);
                 case("sleep at another hz, no rest", other && of_ms > 0 && of_ms % 1000 == 0);
@@ -322,9 +325,11 @@ impl Coverage {
                 case("fresh after fresh", self.last == FRESH);
                 case("fresh over sixteen tasks", before.task_count == SLOTS);
                 case("fresh over ticks", before.tick_count > 0);
-                case("fresh over a mutex with a queue", before.mutexes.iter().any(|mutex| {
-                    !mutex.queue.ids().is_empty()
-                }));
+                case("fresh over a mutex that is owned",
+                    before.mutexes.iter().any(|mutex| mutex.owner.is_some()));
+                case("fresh over a queue",
+                    before.semaphores.iter().any(|(_, queue)| !queue.ids().is_empty())
+                        || before.events.iter().any(|(_, queue)| !queue.ids().is_empty()));
                 case("fresh over permits and signals",
                     before.semaphores.iter().any(|(count, _)| *count > 0)
                         && before.events.iter().any(|(signalled, _)| *signalled));
@@ -335,7 +340,7 @@ impl Coverage {
             let owned = after.slots[after.current].expect("current").owned;
             case("lock or try lock, then all four owned", own.owned == 3 && owned == 4);
         }
-        if matches!(call.op, LOCK | ACQUIRE | EVENT_WAIT) && value == 0 {
+        if matches!(call.op, ACQUIRE | EVENT_WAIT) && value == 0 {
             case("blocks while queued there already", queued);
             case("blocks as the eighth", length == WAITERS - 1 && !queued);
             case("blocks while one of eight queued", length == WAITERS && queued);

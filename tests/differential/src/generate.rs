@@ -81,14 +81,10 @@ impl Plan {
             3 => heavier(&[ADD, EXIT, WAIT, REAP, REAP_ONE], 5),
             4 => heavier(&[TICK, SLEEP, SWITCH, STATUS], 3),
             5 => {
-                // A crowd at one object.
+                // A crowd at one object; none queues at a mutex.
                 tasks = 9 + random.below(7);
                 heavier(&[SWITCH], 3);
-                match random.below(3) {
-                    0 => heavier(&[LOCK], 8),
-                    1 => heavier(&[ACQUIRE], 8),
-                    _ => heavier(&[EVENT_WAIT], 8),
-                }
+                heavier(&[random.of(&[ACQUIRE, EVENT_WAIT])], 8);
             }
             6 => {
                 // A full table.
@@ -226,15 +222,13 @@ fn operands(random: &mut Random, plan: &Plan, tables: &Tables, op: u8) -> Option
                 .collect();
             k = random.of_any(&owned)?;
         }
-        LOCK | TRY_LOCK => {
-            let handed: Vec<u8> = (0..OBJECTS as u8)
-                .filter(|&k| tables.mutexes[k as usize].handoff_to == Some(own.id))
-                .collect();
-            k = random
-                .of_any(&handed)
-                .filter(|_| random.percent(60))
-                .unwrap_or(random.below(plan.objects) as u8);
+        LOCK => {
+            // One that is free: a lock that blocks is outside the domain.
+            let free: Vec<u8> =
+                (0..plan.objects as u8).filter(|&k| !tables.mutexes[k as usize].locked).collect();
+            k = random.of_any(&free)?;
         }
+        TRY_LOCK => k = random.below(plan.objects) as u8,
         ACQUIRE..=SIGNAL => k = object(random, plan, tables, op),
         LIST => {
             let most = tables.task_count as u8;
@@ -338,7 +332,6 @@ fn choose(
             .filter(|slot| matches!(slot.state, READY | RUNNING))
             .count();
         let owns = tables.mutexes.iter().any(|mutex| mutex.owner == Some(own.id));
-        let handed = tables.mutexes.iter().any(|mutex| mutex.handoff_to == Some(own.id));
         let room = tables.task_count < SLOTS;
 
         let op = if matches!(last, WORD | FRESH) && random.percent(25) {
@@ -356,8 +349,6 @@ fn choose(
         } else if alive <= 1 && random.percent(25) {
             // Bring tasks back.
             random.of(&[WAKE, WAKE, RELEASE, SIGNAL, TICK, TICK, ADD, SWITCH])
-        } else if handed && random.percent(30) {
-            LOCK
         } else if owns && random.percent(10) {
             UNLOCK
         } else {

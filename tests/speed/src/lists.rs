@@ -1,5 +1,7 @@
 //! The lists, each from fresh: adds, start, then calls of one kind. The
-//! published kernel is driven along; a call outside the domain is a fault here.
+//! published kernel is driven along; a call outside the domain is a fault here,
+//! but for a lock that blocks: where tasks wait at mutexes all numbers are alike,
+//! so no rank is another than the own number, and the picks are the same.
 
 use kernel::interface::*;
 
@@ -15,17 +17,24 @@ const SIZE: u32 = 64;
 
 pub type List = fn(tasks: usize) -> Vec<u8>;
 
-pub const LISTS: [(&str, List); 10] = [
-    ("tick", tick),
-    ("switch", switch),
-    ("lock and unlock, contended", contended),
-    ("sleep and wake", sleep_wake),
-    ("release, nobody waits", release),
-    ("release, one waits", release_one),
-    ("signal, nobody waits", signal),
-    ("signal, one waits", signal_one),
-    ("mixed", mixed),
-    ("no call", no_call),
+/// On tables of so many tasks, idle counted; those that hold six.
+const SIZES: &[usize] = &[2, 8, 16];
+const OF_SIX: &[usize] = &[8, 16];
+
+/// The name, the list, and on which tables.
+pub const LISTS: [(&str, List, &[usize]); 12] = [
+    ("tick", tick, SIZES),
+    ("switch", switch, SIZES),
+    ("switch, four blocked", four_blocked, OF_SIX),
+    ("switch, a chain of four", chain_of_four, OF_SIX),
+    ("lock and unlock, contended", contended, SIZES),
+    ("sleep and wake", sleep_wake, SIZES),
+    ("release, nobody waits", release, SIZES),
+    ("release, one waits", release_one, SIZES),
+    ("signal, nobody waits", signal, SIZES),
+    ("signal, one waits", signal_one, SIZES),
+    ("mixed", mixed, SIZES),
+    ("no call", no_call, SIZES),
 ];
 
 const RUNNING: u8 = 1;
@@ -54,7 +63,7 @@ impl Made {
 
     fn call(&mut self, op: u8, k: u8, y: u32) -> u32 {
         let asked = Call { op, k, y };
-        assert!(in_domain(asked), "operation {op:02x} is outside the domain");
+        assert!(fits(asked), "operation {op:02x} is outside the domain");
         put_call(&mut self.list, asked);
         self.calls += 1;
         call(asked).1
@@ -73,6 +82,11 @@ impl Made {
     fn more(&self) -> bool {
         self.calls < CALLS
     }
+}
+
+/// In the domain, or a lock that blocks.
+fn fits(asked: Call) -> bool {
+    in_domain(asked) || (asked.op == LOCK && refusal(asked) == 0)
 }
 
 fn own(tables: &Tables) -> Slot {
@@ -96,6 +110,44 @@ fn switch(tasks: usize) -> Vec<u8> {
         made.switch();
     }
     made.list
+}
+
+/// Switches among all tasks but idle and the first four, which own mutexes or
+/// not and then make a call that blocks.
+fn first_four(tasks: usize, waits: fn(&mut Made, at: u8)) -> Vec<u8> {
+    let mut made = Made::started(&vec![128; tasks - 1]);
+    for at in 1..tasks {
+        assert_eq!(current() as usize, at, "the tasks take turns");
+        if (2..=5).contains(&at) {
+            made.call(LOCK, at as u8 - 2, 0);
+        }
+        made.switch();
+    }
+    for at in 1..=4 {
+        assert_eq!(current(), at, "the first four take their second turn");
+        waits(&mut made, at);
+        made.switch();
+    }
+    assert_eq!(current(), 5, "the first four are blocked");
+    made.calls = 0;
+    while made.more() {
+        made.switch();
+    }
+    made.list
+}
+
+/// No mutex has a queue.
+fn four_blocked(tasks: usize) -> Vec<u8> {
+    first_four(tasks, |made, _| {
+        made.call(BLOCK, 0, 0);
+    })
+}
+
+/// Each of the first four waits at a mutex that the next one owns.
+fn chain_of_four(tasks: usize) -> Vec<u8> {
+    first_four(tasks, |made, at| {
+        assert_eq!(made.call(LOCK, at - 1, 0), 0, "the mutex is another's");
+    })
 }
 
 /// One mutex, handed from task to task: its owner confirms the handoff,
@@ -220,8 +272,8 @@ impl Random {
     }
 }
 
-/// Every operation, at random, the same each time. A switch follows where one
-/// is due; what has ended is reaped and added again, so that the table stays
+/// Every operation, at random, the same each time. All that lock have one
+/// number, but for idle where there are two tasks. A switch follows where one is due; what has ended is reaped and added again, so that the table stays
 /// full or a few tasks short of it. The last task never waits or ends, so that
 /// idle does not run; of two tasks it does.
 fn mixed(tasks: usize) -> Vec<u8> {
@@ -247,7 +299,7 @@ fn mixed(tasks: usize) -> Vec<u8> {
     ];
     let total: usize = WEIGHTS.iter().map(|&(_, weight)| weight).sum();
     let last = tasks > 2;
-    let mut priorities: Vec<u8> = (1..tasks).map(|slot| [128, 128, 100][slot % 3]).collect();
+    let mut priorities = vec![128; tasks - 1];
     if last {
         priorities[tasks - 2] = 200;
     }
@@ -280,7 +332,7 @@ fn mixed(tasks: usize) -> Vec<u8> {
         }
         if seen.task_count < tasks && random.below(2) == 0 {
             let start = (0..16).map(|at| 8192 + SIZE * at).find(free).expect("a stretch");
-            made.add([128, 128, 100][random.below(3)], start);
+            made.add(128, start);
             continue;
         }
 
@@ -330,7 +382,7 @@ fn mixed(tasks: usize) -> Vec<u8> {
             .collect();
         // One that nobody waits for, or whose head is Blocked.
         let fit: Vec<u8> =
-            (0..OBJECTS as u8).filter(|&k| in_domain(Call { op, k, y: 0 })).collect();
+            (0..OBJECTS as u8).filter(|&k| fits(Call { op, k, y: 0 })).collect();
         let (k, y) = match op {
             SWITCH => (0, own.start + own.size - 16),
             WAIT => (0, other),
@@ -345,7 +397,7 @@ fn mixed(tasks: usize) -> Vec<u8> {
             TRY_LOCK..=SIGNAL => (random.below(OBJECTS) as u8, 0),
             _ => (0, 0),
         };
-        if in_domain(Call { op, k, y }) {
+        if fits(Call { op, k, y }) {
             let answer = made.call(op, k, y);
             wanted = wanted || (op == TICK && answer == 1);
         }

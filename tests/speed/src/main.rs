@@ -19,7 +19,6 @@ use lists::LISTS;
 use notation::{parse, put_answer};
 use replay::HZ;
 
-const SIZES: [usize; 3] = [2, 8, 16];
 const RUNS: usize = 31;
 
 #[repr(C)]
@@ -119,8 +118,8 @@ fn main() -> ExitCode {
     println!("| List | Tasks | Calls | play_list, ns a call | the Rust, ns a call | Ratio |");
     println!("|---|---:|---:|---:|---:|---:|");
 
-    for (name, make) in LISTS {
-        for tasks in SIZES {
+    for (name, make, sizes) in LISTS {
+        for &tasks in sizes {
             let list = make(tasks);
             let calls = list.iter().filter(|&&byte| byte == b'\n').count();
             let mut rust = Vec::with_capacity(13 * (calls + 1));

@@ -1,4 +1,4 @@
--- `started` meets its contract, by those of `next_task` and `entered`.
+-- `started` meets its contract, by those of `picked` and `entered`.
 use Rattle.kernel.specs.Scheduler
 use Rattle.kernel.specs.Calls.{value, effect}
 use borrow.Author.Needs.{needs}
@@ -17,4 +17,4 @@ started-spec =
     (λ c. search needs)
     (λ c. search needs)
     (λ c κs. search needs)
-    (λ c. rw (c .accepted .ensures, c .before .entered .ensures, ← c .before .before .before .next-task .ensures .0)))
+    (λ c. rw (c .accepted .ensures, c .before .entered .ensures, ← c .before .before .before .picked .ensures .0)))

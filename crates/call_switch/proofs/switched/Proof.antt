@@ -1,4 +1,4 @@
--- `switched` meets its contract, by those of `context_saved`, `next_task`, `reloaded` and `entered`.
+-- `switched` meets its contract, by those of `context_saved`, `picked`, `reloaded` and `entered`.
 use Rattle.kernel.specs.Scheduler
 use Rattle.kernel.specs.declared.control.SlotIndex.{SlotIndex}
 use mathlib.Core.Path.{_≡_, ap}
@@ -15,7 +15,7 @@ slot-is s n e = ap index e
 
 returns : tie.Need-returns
 unfolding Scheduler.switch
-returns c = rw (c .accepted .ensures, c .before .entered .ensures, c .before .before .reloaded .ensures, slot-is _ _ (c .before .before .before .before .next-task .ensures .0), c .before .before .before .before .before .context-saved .ensures)
+returns c = rw (c .accepted .ensures, c .before .entered .ensures, c .before .before .reloaded .ensures, slot-is _ _ (c .before .before .before .before .picked .ensures .0), c .before .before .before .before .before .context-saved .ensures)
 
 pub switched-spec : {M : Type 1} → statement M
 switched-spec =

@@ -175,7 +175,18 @@ impl Call {
 /// Whether the call is in the compared domain. A word altered between two
 /// calls is.
 pub fn in_domain(call: Call) -> bool {
-    refusal(call) == 0 && !past_its_head(call)
+    refusal(call) == 0 && !past_its_head(call) && !queues_at_a_mutex(call)
+}
+
+/// A lock that blocks: after it a mutex has a queue. The Rust picks by the own
+/// number; from there on document 02's W-205 is the yardstick.
+fn queues_at_a_mutex(call: Call) -> bool {
+    let own = || Door::see().tasks[Door::see().current].as_ref().map(|task| task.id);
+
+    call.op == LOCK && {
+        let (locked, owner, ..) = MUTEXES[call.k as usize].see();
+        locked && owner != own()
+    }
 }
 
 /// A release or signal whose head is not Blocked. The Rust drops that head and

@@ -2,7 +2,8 @@
 use Prim.Native.Nat.{_-_}
 use mathlib.Core.Path.{refl}
 use borrow.Author.Needs.{needs}
-use Rattle.kernel.specs.Scheduler.{isReady, priorityOf}
+use Rattle.kernel.specs.Rank.{priorityOf}
+use Rattle.kernel.specs.Scheduler.{isReady}
 use Rattle.pick.proofs.Keys.{Keyed, keyed-none, keyed-more, keyed-done}
 use Rattle.pick.proofs.internal.task_keys.Statement.{statement}
 use Rattle.pick.proofs.internal.task_keys.Tie as tie
