@@ -1,6 +1,6 @@
 -- What holds of every kernel from fresh, and what an accepted call does in the terms of `Fairness`: a tick is `Tick`, a switch is `Turn` for every rank that the pick
 -- goes by, any other call of a started kernel is `Other`; and a charge rises by the ticks made while its slot was current.
-use mathlib.Core.Path.{_≡_, refl, sym, ap, subst, _∙_}
+use mathlib.Core.Path.{_≡_, refl, sym, ap, _∙_}
 use mathlib.Core.Bool.{Bool, true, false, not, _&&_, _||_}
 use mathlib.Core.List.{List}
 use mathlib.Core.Logic.{inl, inr}
@@ -22,18 +22,18 @@ use Rattle.kernel.specs.Update.{withRemaining}
 use Rattle.kernel.specs.Control.{stateNumber, holdsTask, hasLimit, blankSlot}
 use Rattle.kernel.specs.Kernel.{slot, charge, at, current, currentTask, freshKernel}
 use Rattle.kernel.specs.Rank.{rank}
-use Rattle.kernel.specs.Scheduler.{isReady, nextTask, isDue, isLimitDue, woken, spent, clocked, advanced, currentRuns, sliced, wants, wantsSwitch, dispatched, contextSaved, reloaded, saveContext}
+use Rattle.kernel.specs.Scheduler.{isReady, nextTask, isDue, isLimitDue, woken, spent, clocked, advanced, currentRuns, sliced, wants, wantsSwitch, contextSaved, saveContext}
 use Rattle.kernel.specs.Scheduler
 use Rattle.kernel.specs.Calls.{Kind, plain, ticking, initNumber}
 use Rattle.kernel.proofs.Pick.{pick-lt}
 use Rattle.kernel.proofs.Rank.{rank-saved, rank-dispatched}
 use Rattle.kernel.proofs.Unlimited.{woken-ahead}
 use Rattle.kernel.proofs.Walk.{walked-beside, walked-before}
-use Rattle.kernel.proofs.Changes.{same, state, passed, saved, charged, Changes, carry, SlotChange, by}
+use Rattle.kernel.proofs.Changes.{same, state, passed, charged, Changes, carry, SlotChange, by}
 use Rattle.kernel.proofs.Owned.{Sound, empty-table, fresh-sound, change-sound}
 use Rattle.book_guarantees.proofs.BestFirst.{clash, Rather, pick-is}
 use Rattle.book_guarantees.proofs.Fairness.{runs, Live, allowance, budget, some-tick, Tick, Other, Turn}
-use Rattle.book_guarantees.proofs.Kept.{SliceFits, IsOther, TaskKept, task-kept, reloaded-kept, each-kept, slices-kept, kept, NoLonger, no-longer}
+use Rattle.book_guarantees.proofs.Kept.{SliceFits, IsOther, TaskKept, task-kept, each-kept, slices-kept, kept, NoLonger, no-longer}
 
 -- ---- the invariant
 

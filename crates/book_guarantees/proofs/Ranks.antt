@@ -1,19 +1,18 @@
 -- What the book says of ranks, by the laws of crates/kernel/proofs/Rank.antt.
 use Prim.Native.Nat.{ℕ, _≤_, _<_}
 use native.Mathlib.Omega.{arith}
-use mathlib.Core.Path.{_≡_, refl, sym, subst, _∙_}
-use mathlib.Core.Bool.{true}
-use lib.Dec.{eqb, ltb}
+use mathlib.Core.Path.{_≡_, sym, subst, _∙_}
+use lib.Dec.{eqb}
 use borrow.Author.Tests.{ltb-true}
 use Rattle.base.proofs.Loops.{smallest-at, smallest-is}
 use Rattle.kernel.specs.declared.control.TaskId.{TaskId}
 use Rattle.kernel.specs.declared.control.OptionTaskId.the-variants.{Some}
 use Rattle.kernel.specs.declared.scheduler.Kernel.{Kernel}
 use Rattle.kernel.specs.Control.{holdsTask}
-use Rattle.kernel.specs.Kernel.{slot, slotOf, isPresent, mutex}
+use Rattle.kernel.specs.Kernel.{slotOf, mutex}
 use Rattle.kernel.specs.Rank.{priorityOf, ownerSlot, link, leadsTo, rank}
 use Rattle.kernel.proofs.Rank.{leads-none, rank-le, rank-own, link-none, link-by, at-most-four, four-enough, rank-on, rank-saved}
-use Rattle.book_guarantees.specs.Ranks.{WaitsAt, Ranks, RankGuarantee}
+use Rattle.book_guarantees.specs.Ranks.{WaitsAt, RankGuarantee}
 
 link-is : (k : Kernel) (j m : ℕ) → m < 4 → WaitsAt k j m → link k j ≡ ownerSlot k (mutex k m .owner)
 unfolding holdsTask

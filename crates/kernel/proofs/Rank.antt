@@ -2,7 +2,6 @@
 -- who is Blocked are the same. Each link goes to the owner of one of four mutexes and none is met twice, so a chain has at most four links.
 use Prim.Native.Nat.{ℕ, zero, suc, _≤_, _<_, zero-le}
 use native.Mathlib.Omega.{arith}
-use native.Mathlib.Nat.{le-refl}
 use native.Mathlib.Decide.{ℕ-discrete}
 use mathlib.Core.Path.{_≡_, refl, sym, ap, subst, _∙_}
 use mathlib.Core.Bool.{Bool, true, false, _&&_, _||_, not, false≢true}
@@ -13,12 +12,12 @@ use lib.ListN.{length}
 use borrow.Author.Tests.{leb-false, le-leb, lt-leb, eqb-true, eq-eqb, ne-eqb, ltb-true, lt-ltb, le-ltb}
 use Rattle.base.specs.Choice.{if_then_else_}
 use Rattle.base.specs.Below.{countBelow, lowestBelow, smallestBelow}
-use Rattle.base.proofs.Choices.{either, and-left, and-right, or-left, or-right}
+use Rattle.base.proofs.Choices.{either, and-right, or-left, or-right}
 use Rattle.base.proofs.Loops.{all-at, count-le, count-fewer, lowest-only, lowest-same, lowest-none, smallest-le, smallest-at, smallest-least, smallest-same, smallest-none, set-each}
 use Rattle.kernel.specs.Types.{TaskId, OptionTaskId, None, Some, Ready, Running, Blocked, TaskControl, WaitQueue, Kernel}
-use Rattle.kernel.specs.Control.{stateNumber, inState, holdsTask, sameId, entered, blankSlot}
+use Rattle.kernel.specs.Control.{stateNumber, inState, holdsTask, entered, blankSlot}
 use Rattle.kernel.specs.WaitQueue.{position, waitsAt, contains, isEmpty}
-use Rattle.kernel.specs.Kernel.{slot, current, holdsId, slotOf, mutex}
+use Rattle.kernel.specs.Kernel.{slot, current, slotOf, mutex}
 use Rattle.kernel.specs.Scheduler.{contextSaved, reloaded, saveContext, dispatched}
 use Rattle.kernel.specs.Rank.{priorityOf, queuedAt, ownerSlot, link, noQueues, chain, isIn, leadsTo, rank}
 
@@ -27,7 +26,7 @@ clash e f = absurd (false≢true (sym f ∙ e))
 
 -- ---- chains by any links
 
--- one link of a chain: it goes on, or ends; o is where the link goes
+-- one link of a chain: it ends, or goes on
 pub chain-ends : (to : ℕ → ℕ) (n : ℕ) (met : ℕ → Bool) (j : ℕ) → (leb 16 (to j) || met (to j)) ≡ true → chain to n met j ≡ []
 unfolding chain if_then_else_
 chain-ends to zero met j e = refl

@@ -10,7 +10,7 @@ use Rattle.kernel.specs.declared.control.TaskControl.{TaskControl}
 use Rattle.kernel.specs.declared.control.TaskState.the-variants.{Ready}
 use Rattle.kernel.specs.declared.scheduler.Kernel.{Kernel}
 use Rattle.kernel.specs.Control.{holdsTask, blankSlot}
-use Rattle.kernel.specs.Kernel.{slot, current}
+use Rattle.kernel.specs.Kernel.{current}
 use Rattle.kernel.specs.Rank.{priorityOf, rank, noQueues}
 use Rattle.kernel.specs.Scheduler.{pick, isReady, nextTask}
 use Rattle.kernel.proofs.Pick.{pick-same}

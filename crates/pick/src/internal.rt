@@ -58,7 +58,7 @@ fn ranked(k: Kernel) -> Kernel
 
 // The same by rank.
 pub fn next_task(k: Kernel) -> SlotIndex
-    requires { ⌜ current k < 16 ⌝ }
+    requires { ⌜ k .current .0 < 16 ⌝ }
     ensures { λ r. ⌜ (r .0 ≡ nextTask k) × (r .0 < 16) ⌝ }
 {
     next_by_number(ranked(k))
