@@ -146,11 +146,12 @@ pub record Fives : Type 0 where
   pub own-five : (ticksOf two-tasks 2 11 1 ≡ 5) × (riseOf two-tasks 2 11 1 ≡ 5)
   pub peer-five : (ticksOf two-tasks 2 11 2 ≡ 5) × (riseOf two-tasks 2 11 2 ≡ 5)
 
--- 75 is met, by idle; and 71 by a task that is not idle
+-- 75 is met, by idle
 pub record IdleRound : Type 0 where
   pub idle-stretch : every (conditions idle-round 105 91 0 (id 0)) ≡ true
   pub seventy-five : sum (λ j. if eqb j 0 then 0 else riseOf idle-round 105 91 j) 16 ≡ 75
 
+-- 71 is met, by a task that is not idle
 pub record TaskRound : Type 0 where
   pub task-stretch : every (conditions idle-round 15 91 1 (id 1)) ≡ true
   pub seventy-one : sum (λ j. if eqb j 1 then 0 else riseOf idle-round 15 91 j) 16 ≡ 71

@@ -1,5 +1,5 @@
--- What holds of every kernel from fresh, and what an accepted call does in the terms of `Fairness`: a tick is `Tick`, a switch is `Turn` for every rank that the pick
--- goes by, any other call of a started kernel is `Other`; and a charge rises by the ticks made while its slot was current.
+-- What holds of every kernel from fresh, and what an accepted call does in the terms of `Fairness`: a tick is `Tick`, a switch is `Turn`, by rank,
+-- any other call of a started kernel is `Other`; and a charge rises by the ticks made while its slot was current.
 use mathlib.Core.Path.{_≡_, refl, sym, ap, _∙_}
 use mathlib.Core.Bool.{Bool, true, false, not, _&&_, _||_}
 use mathlib.Core.List.{List}

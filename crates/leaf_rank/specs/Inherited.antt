@@ -41,7 +41,7 @@ pub record Each (size : ℕ) (f : ℕ → ℕ) (xs : List ℕ) : Type 0 where
 abbrev pub linkAt : List ℕ → ℕ → ℕ
 linkAt links j = getD links j 0
 
--- the rank of slot i once a number was passed on along a chain of so many links from slot j
+-- the rank of slot i once a number was passed on along a chain of at most so many links from slot j, past the slots met
 unfoldable pub inheritedBy : List ℕ → List Bool → List ℕ → ℕ → ℕ → ℕ → ℕ → ℕ
 inheritedBy links met ranks number j left i =
     if isIn i (chain (linkAt links) left (λ x. getD met x false) j) then min (getD ranks i 0) number

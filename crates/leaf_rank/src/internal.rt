@@ -1,5 +1,5 @@
-// The rank of each slot (02, W-205): a task that waits at a mutex passes its number on to the mutex's owner, and on along the chain. Slots are bytes here, 16 for none:
-// arrays of sixteen bytes go from call to call, and the walk lends them.
+// The rank of each slot (02, W-205): a task that waits at a mutex passes its number on to the mutex's owner, and on along the chain. Slots are bytes here, 16 for none;
+// arrays go from call to call by value, and the walk along a chain is lent them.
 use kernel::control::OptionTaskId;
 use kernel::control::TaskControl;
 use kernel::control::TaskId;
@@ -98,7 +98,7 @@ fn smaller(a: u8, b: u8) -> u8
     if a < b { a } else { b }
 }
 
-// A number passed on along the chain from slot `at`, with so many links left; a ring ends where it meets itself.
+// A number passed on along the chain from slot `at`, with so many links left; a ring ends where it meets itself: `met` are the slots that the chain has met.
 fn inherit(
     links: &[u8; Kernel::MAX_TASKS],
     met: &mut [bool; Kernel::MAX_TASKS],
@@ -126,7 +126,7 @@ fn inherit(
     inherit(links, met, ranks, number, to, left - 1);
 }
 
-// The number of slot j passed on.
+// A number passed on along the chain from slot j.
 fn inherit_from(
     links: &[u8; Kernel::MAX_TASKS],
     ranks: &mut [u8; Kernel::MAX_TASKS],

@@ -1,4 +1,4 @@
--- The table as the pick searches it: one key for each slot, its rank where it is Ready, and 256 or more where it is not.
+-- The table as the pick searches it: one key for each slot, its number where it is Ready, and 256 or more where it is not.
 use Prim.Native.Nat.{ℕ, _≤_, _<_}
 use mathlib.Core.Path.{_≡_}
 use mathlib.Core.Bool.{Bool, true}
@@ -10,9 +10,9 @@ use Rattle.base.specs.Below.{lowestBelow}
 use Rattle.kernel.specs.Scheduler.{slotAfter}
 
 -- a slot's key
-pub record IsKey (ready : Bool) (rank key : ℕ) : Type 0 where
+pub record IsKey (ready : Bool) (number key : ℕ) : Type 0 where
   pub shown : ltb key 256 ≡ ready
-  pub same : ready ≡ true → key ≡ rank
+  pub same : ready ≡ true → key ≡ number
 
 -- the smallest key of the first n, where one is below 256
 pub record IsLeast (keys : List ℕ) (n best : ℕ) : Type 0 where

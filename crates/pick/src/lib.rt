@@ -12,7 +12,7 @@ ghost use Rattle.pick.specs.Keys.{IsKey, IsLeast, firstFrom};
 
 pub mod internal;
 
-// The key of a slot that is not Ready; a rank is below it.
+// The key of a slot that is not Ready; a number is below it.
 const NOT_READY: u16 = 256;
 
 // The state byte of an empty slot, after the states' numbers.
@@ -21,10 +21,10 @@ const EMPTY: u8 = 6;
 // What stands for refusal 22.
 const REFUSED: u8 = 255;
 
-fn key(ready: bool, rank: u8) -> u16
-    ensures { λ r. ⌜ IsKey ready rank r ⌝ }
+fn key(ready: bool, number: u8) -> u16
+    ensures { λ r. ⌜ IsKey ready number r ⌝ }
 {
-    if ready { rank as u16 } else { NOT_READY }
+    if ready { number as u16 } else { NOT_READY }
 }
 
 fn smaller(a: u16, b: u16) -> u16

@@ -1,6 +1,7 @@
 //! The lists, each from fresh: adds, start, then calls of one kind. The
 //! published kernel is driven along; a call outside the domain is a fault here,
-//! but for a lock that blocks: where tasks wait at mutexes all numbers are alike,
+//! but for a lock that blocks: all that wait at mutexes or own them have one
+//! number, but for idle in `mixed` of two tasks,
 //! so no rank is another than the own number, and the picks are the same.
 
 use kernel::interface::*;

@@ -7,7 +7,7 @@ use Rattle.pick.proofs.key.Statement.{statement}
 use Rattle.pick.proofs.key.Tie as tie
 
 returns : tie.Need-returns
-returns c = record { shown = lt-ltb (c .before .args .rank) 256 (search needs) ∙ sym (c .if1 .taken); same = λ _. refl }
+returns c = record { shown = lt-ltb (c .before .args .number) 256 (search needs) ∙ sym (c .if1 .taken); same = λ _. refl }
 
 returns-2 : tie.Need-returns-2
 returns-2 c = record { shown = sym (c .if1 .left); same = λ e. absurd (false≢true (sym (c .if1 .left) ∙ e)) }
