@@ -16,32 +16,37 @@ use Rattle.kernel.specs.Calls.{Call, number, value, effect, valueNumber, step, 
 use Rattle.book_guarantees.specs.Lists.{Returned, outcomeOf, outcome, sum}
 use Rattle.book_guarantees.proofs.TurnGuarantee.{turn-guarantee}
 use Rattle.book_examples.specs.Tests.{entry, between, second}
-use Rattle.book_examples.specs.Examples.{run, arena, id, unpainted, mixed-calls, mixed, Mixed, two-tasks, idle-round, late-switch, smaller-number, first-sleeps, not-neighbours, other-sleeps, by-rank, first-changes, other-changes, other-priority, Met, Fives, IdleRound, TaskRound, Needed, Changing}
+use Rattle.book_examples.specs.Examples.{run, arena, id, unpainted, mixed-calls, mixed, Mixed, two-tasks, idle-round, late-switch, smaller-number, first-sleeps, not-neighbours, other-sleeps, by-rank, smaller-rank, first-changes, other-changes, other-priority, Met, Fives, IdleRound, TaskRound, Needed, Changing}
 use Rattle.book_examples.proofs.Checked.{stretch-is, unchanging-is, peer-is, peer-unchanging-is}
 
+-- what the claims compute with: to unfold this is to unfold all that its line names
+computed : Unit {0}
+unfolding arena unpainted painted mixed mixed-calls two-tasks idle-round late-switch smaller-number first-sleeps not-neighbours other-sleeps by-rank smaller-rank first-changes other-changes other-priority outcome outcomeOf step number value effect valueNumber init initNumber freshKernel whole arenaFits if_then_else_ every allBelow anyBelow countBelow lowestBelow smallestBelow tabulate holdsTask link chain leadsTo rank position pushed enqueued atId placeWithout without popped Mutex.lock Mutex.unlock unblocked regionFits regionsOverlap stackGuardOk spInRange slotOf isBest pick lowestEmpty overlapsPresent isDue isLimitDue woken visited walked clocked advanced sliced wants wantsSwitch contextSaved reloaded Scheduler.add Scheduler.start Scheduler.tick Scheduler.switch sum
+computed = tt
+
 pub met : Met
-unfolding arena unpainted painted mixed mixed-calls two-tasks idle-round late-switch smaller-number first-sleeps not-neighbours other-sleeps by-rank first-changes other-changes other-priority outcome outcomeOf step number value effect valueNumber init initNumber freshKernel whole arenaFits if_then_else_ every allBelow anyBelow countBelow lowestBelow smallestBelow tabulate holdsTask link chain leadsTo rank position pushed enqueued atId placeWithout without popped Mutex.lock Mutex.unlock unblocked regionFits regionsOverlap stackGuardOk spInRange slotOf isBest pick lowestEmpty overlapsPresent isDue isLimitDue woken visited walked clocked advanced sliced wants wantsSwitch contextSaved reloaded Scheduler.add Scheduler.start Scheduler.tick Scheduler.switch sum
+unfolding computed
 met = record { refused = refl; mixed-fresh = refl; mixed-stretch = refl; mixed-peer = refl }
 
 pub fives : Fives
-unfolding arena unpainted painted mixed mixed-calls two-tasks idle-round late-switch smaller-number first-sleeps not-neighbours other-sleeps by-rank first-changes other-changes other-priority outcome outcomeOf step number value effect valueNumber init initNumber freshKernel whole arenaFits if_then_else_ every allBelow anyBelow countBelow lowestBelow smallestBelow tabulate holdsTask link chain leadsTo rank position pushed enqueued atId placeWithout without popped Mutex.lock Mutex.unlock unblocked regionFits regionsOverlap stackGuardOk spInRange slotOf isBest pick lowestEmpty overlapsPresent isDue isLimitDue woken visited walked clocked advanced sliced wants wantsSwitch contextSaved reloaded Scheduler.add Scheduler.start Scheduler.tick Scheduler.switch sum
+unfolding computed
 fives = record { stretch = refl; a-peer = refl; own-five = (refl, refl); peer-five = (refl, refl) }
 
 pub idle-round-is : IdleRound
-unfolding arena unpainted painted mixed mixed-calls two-tasks idle-round late-switch smaller-number first-sleeps not-neighbours other-sleeps by-rank first-changes other-changes other-priority outcome outcomeOf step number value effect valueNumber init initNumber freshKernel whole arenaFits if_then_else_ every allBelow anyBelow countBelow lowestBelow smallestBelow tabulate holdsTask link chain leadsTo rank position pushed enqueued atId placeWithout without popped Mutex.lock Mutex.unlock unblocked regionFits regionsOverlap stackGuardOk spInRange slotOf isBest pick lowestEmpty overlapsPresent isDue isLimitDue woken visited walked clocked advanced sliced wants wantsSwitch contextSaved reloaded Scheduler.add Scheduler.start Scheduler.tick Scheduler.switch sum
+unfolding computed
 idle-round-is = record { idle-stretch = refl; seventy-five = refl }
 
 pub task-round-is : TaskRound
-unfolding arena unpainted painted mixed mixed-calls two-tasks idle-round late-switch smaller-number first-sleeps not-neighbours other-sleeps by-rank first-changes other-changes other-priority outcome outcomeOf step number value effect valueNumber init initNumber freshKernel whole arenaFits if_then_else_ every allBelow anyBelow countBelow lowestBelow smallestBelow tabulate holdsTask link chain leadsTo rank position pushed enqueued atId placeWithout without popped Mutex.lock Mutex.unlock unblocked regionFits regionsOverlap stackGuardOk spInRange slotOf isBest pick lowestEmpty overlapsPresent isDue isLimitDue woken visited walked clocked advanced sliced wants wantsSwitch contextSaved reloaded Scheduler.add Scheduler.start Scheduler.tick Scheduler.switch sum
+unfolding computed
 task-round-is = record { task-stretch = refl; seventy-one = refl }
 
 pub needed : Needed
-unfolding arena unpainted painted mixed mixed-calls two-tasks idle-round late-switch smaller-number first-sleeps not-neighbours other-sleeps by-rank first-changes other-changes other-priority outcome outcomeOf step number value effect valueNumber init initNumber freshKernel whole arenaFits if_then_else_ every allBelow anyBelow countBelow lowestBelow smallestBelow tabulate holdsTask link chain leadsTo rank position pushed enqueued atId placeWithout without popped Mutex.lock Mutex.unlock unblocked regionFits regionsOverlap stackGuardOk spInRange slotOf isBest pick lowestEmpty overlapsPresent isDue isLimitDue woken visited walked clocked advanced sliced wants wantsSwitch contextSaved reloaded Scheduler.add Scheduler.start Scheduler.tick Scheduler.switch sum
+unfolding computed
 needed = record { late = refl; late-rise = refl; smaller = refl; smaller-waits = (refl, refl); first = refl; first-two = (refl, refl); neighbours = refl; neighbour-two = (refl, refl); asleep = refl; asleep-none = (refl, refl); unequal = refl; unequal-none = (refl, refl) }
 
 pub changing : Changing
-unfolding arena unpainted painted mixed mixed-calls two-tasks idle-round late-switch smaller-number first-sleeps not-neighbours other-sleeps by-rank first-changes other-changes other-priority outcome outcomeOf step number value effect valueNumber init initNumber freshKernel whole arenaFits if_then_else_ every allBelow anyBelow countBelow lowestBelow smallestBelow tabulate holdsTask link chain leadsTo rank position pushed enqueued atId placeWithout without popped Mutex.lock Mutex.unlock unblocked regionFits regionsOverlap stackGuardOk spInRange slotOf isBest pick lowestEmpty overlapsPresent isDue isLimitDue woken visited walked clocked advanced sliced wants wantsSwitch contextSaved reloaded Scheduler.add Scheduler.start Scheduler.tick Scheduler.switch sum
-changing = record { covered = (refl, refl, refl); inherited = refl; changed = refl; changed-two = (refl, refl); unchanged = refl; unchanged-none = (refl, refl) }
+unfolding computed
+changing = record { covered = (refl, refl, refl); inherited = refl; smaller = refl; smaller-waits = (refl, refl); changed = refl; changed-two = (refl, refl); unchanged = refl; unchanged-none = (refl, refl) }
 
 run-returned : (k : Kernel) (cs : List Call) → Returned k (run k cs)
 run-returned k [] = tt

@@ -119,6 +119,10 @@ inherits = task 1 9 ∷ task 2 5 ∷ task 3 5 ∷ start ∷ sleep 1 ∷ leave 2 
 unfoldable pub by-rank : List Entry
 by-rank = played (inherits ++ (leave 3 ∷ leave 1 ∷ leave 2 ∷ []))
 
+-- a task with a smaller rank has a turn between, its number being larger: task 1, at 200, holds mutex 0, at which task 2, at 1, waits; slot 3 is picked again, though slot 4 waited
+unfoldable pub smaller-rank : List Entry
+smaller-rank = played (task 1 200 ∷ task 2 1 ∷ start ∷ sleep 1 ∷ leave 2 ∷ lock 0 ∷ tick ∷ leave 1 ∷ lock 0 ∷ task 3 9 ∷ task 4 9 ∷ leave 2 ∷ sleep 1 ∷ leave 1 ∷ tick ∷ leave 3 ∷ sleep 5 ∷ leave 1 ∷ [])
+
 -- the first task's rank changes: it unlocks, is of rank 9, and 5 again once task 3 waits at mutex 1; task 2 has two turns
 unfoldable pub first-changes : List Entry
 first-changes = played (inherits ++ (leave 3 ∷ unlock 0 ∷ leave 1 ∷ leave 2 ∷ leave 3 ∷ leave 2 ∷ lock 1 ∷ leave 3 ∷ []))
@@ -175,10 +179,12 @@ pub record Needed : Type 0 where
   pub unequal : every (conditions other-priority 2 0 1 (id 1)) ≡ true
   pub unequal-none : (peer other-priority 2 0 1 2 (id 2) ≡ true ∷ false ∷ true ∷ true ∷ []) × (turnsOf other-priority 2 0 2 ≡ 0)
 
--- tasks at 9 and at 5 are of one rank, and each has its turn; then all but "unchanging", of the first task or of the other
+-- tasks at 9 and at 5 are of one rank, and each has its turn; then all but "none smaller", by a rank that is not the own number, and all but "unchanging", of the first task or of the other
 pub record Changing : Type 0 where
   pub covered : (every (conditions by-rank 14 1 1 (id 1)) ≡ true) × (every (peer by-rank 14 1 1 2 (id 2)) ≡ true) × (turnsOf by-rank 14 1 2 ≡ 1)
   pub inherited : tabulate (rank (after (entry first-changes 13))) 4 ≡ 255 ∷ 5 ∷ 5 ∷ 5 ∷ []
+  pub smaller : conditions smaller-rank 13 3 3 (id 3) ≡ true ∷ true ∷ true ∷ true ∷ false ∷ true ∷ true ∷ []
+  pub smaller-waits : (every (peer smaller-rank 13 3 3 4 (id 4)) ≡ true) × (turnsOf smaller-rank 13 3 4 ≡ 0)
   pub changed : conditions first-changes 14 6 1 (id 1) ≡ true ∷ true ∷ true ∷ true ∷ true ∷ true ∷ false ∷ []
   pub changed-two : (every (peer first-changes 14 6 1 2 (id 2)) ≡ true) × (turnsOf first-changes 14 6 2 ≡ 2)
   pub unchanged : every (conditions other-changes 15 2 2 (id 2)) ≡ true

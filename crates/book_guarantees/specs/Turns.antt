@@ -1,4 +1,4 @@
--- The book's third sentence, clause by clause, in 01's words, by rank as 02 has it (W-205); and as 01 has it, by priority number, where no mutex has a queue.
+-- The book's third sentence, clause by clause, in the request's words and 01's, by rank as 02 has it (W-205); and as the request has it, by priority number, where no mutex has a queue.
 use mathlib.Core.Path.{_≡_}
 use mathlib.Core.Bool.{true}
 use mathlib.Core.List.{List, [], _∷_, _++_}
@@ -82,7 +82,7 @@ abbrev pub TurnGuarantee : Type 0
 TurnGuarantee = InEveryList (λ one between two. (i : ℕ) (a : TaskId) → Stretch rank i a one between two → Unchanging rank i one between
     → Fair (λ j b. Peer rank i one between j b × Unchanging rank j one between) i one between)
 
--- Where no mutex has a queue after the first turn and after each call between, the sentence is 01's: by priority number, which a task keeps.
+-- Where no mutex has a queue after the first turn and after each call between, the sentence is the request's: by priority number, which a task keeps.
 abbrev pub TurnGuaranteeByPriority : Type 0
 TurnGuaranteeByPriority = InEveryList (λ one between two. Each (λ e. noQueues (after e) ≡ true) (one ∷ between)
     → (i : ℕ) (a : TaskId) → Stretch priorityOf i a one between two → Fair (Peer priorityOf i one between) i one between)

@@ -56,7 +56,7 @@ fn ranked(k: Kernel) -> Kernel
     out
 }
 
-// The same by rank.
+// The Ready slot of the smallest rank, the first of them from current + 1 cyclically; 0 where none is Ready.
 pub fn next_task(k: Kernel) -> SlotIndex
     requires { ⌜ k .current .0 < 16 ⌝ }
     ensures { λ r. ⌜ (r .0 ≡ nextTask k) × (r .0 < 16) ⌝ }
