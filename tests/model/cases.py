@@ -1,11 +1,12 @@
 """The cases of tests/cases: lists from fresh with answers worked out by hand from documents 01, 02, 04 and 05. Each is held against
 the model and, where a call is in the compared domain, against the Rust; of other lines the reference has to say 01's number. At
 a release or signal that drops a head which is not Blocked it has to say W-201, at a wait with a limit W-202, at a lock after which a
-mutex has a queue W-205; from there on the list is held to the model alone. So are the lists of `late`, since no list brings the Rust to
-that tick. At milliseconds from ticks it has to say W-204; the call alters nothing, and the Rust plays the list without it.
+mutex has a queue W-205; from there on the list is held to the model alone. So are the lists of `late` and of `odd`, since no list brings the
+Rust to that tick, and its kernel has no charges. At milliseconds from ticks it has to say W-204; the call alters nothing, and the Rust plays
+the list without it.
 
   cases.py [DIR]    with DIR, also writes each list and what is printed for it: DIR/NAME.in and DIR/NAME.out for `turns`,
-                    DIR/tables/NAME.in and DIR/tables/NAME.out for `tables`, DIR/late likewise
+                    DIR/tables/NAME.in and DIR/tables/NAME.out for `tables`, DIR/late and DIR/odd likewise
   REFERENCE         the program that tests/differential/build makes; default target/differential/reference"""
 import os
 import subprocess
@@ -32,6 +33,11 @@ def tables(name, shows, *calls):
 def late(name, shows, *calls):
     """The same for a `tables` in which a fresh kernel begins at tick model.LATE, 12 before 2^64 - 1."""
     CASES.append(("late", name, shows, calls))
+
+
+def odd(name, shows, *calls):
+    """The same for a `tables` in which fresh with hz n, from 1 on, gives the n-th kernel of model.ODD."""
+    CASES.append(("odd", name, shows, calls))
 
 
 # Calls. Regions of one size lie one after the other behind idle's, counted from 0; sp is a region's last word.
@@ -63,19 +69,19 @@ def added(*priorities, size=64):
 
 
 def table(slots, scheduler, mutexes=" ".join(["0,-,-,[];"] * 4), semaphores=" ".join(["0,[];"] * 4), events=" ".join(["0,[];"] * 4),
-          charges="0", limits={}, lent={}):
+          charges="0", limits={}, lent={}, retired=0):
     """The line of `tables`; charges of the first slots, the others being 0; limits of those slots that have or had one; the ranks of those
-    that are lent one, the others being the own numbers."""
+    that are lent one, the others being the own numbers; the retired sum."""
     charges = charges.split(",")
     limits = ";".join(f"{slot},{limits.get(int(slot), '-,-,-,0')}" for slot in (text.partition(",")[0] for text in slots))
     own = {int(text.split(",")[0]): int(text.split(",")[3]) for text in slots}
     return " | ".join([";".join(slots), scheduler, mutexes, semaphores, events, ",".join(charges + ["0"] * (16 - len(charges))), limits]) + ranks(
-        *[lent.get(slot, own.get(slot)) for slot in range(16)])
+        *[lent.get(slot, own.get(slot)) for slot in range(16)], retired=retired)
 
 
-def ranks(*first):
-    """The end of that line: the ranks of the first slots, `None` for an empty one; the others are empty."""
-    return " | " + ",".join("-" if rank is None else str(rank) for rank in [*first, *[None] * (16 - len(first))])
+def ranks(*first, retired=0):
+    """The end of that line: the ranks of the first slots, `None` for an empty one; the others are empty; and the retired sum."""
+    return " | " + ",".join("-" if rank is None else str(rank) for rank in [*first, *[None] * (16 - len(first))]) + f" | {retired}"
 
 
 READY, RUNNING, BLOCKED, SLEEPING, SUSPENDED, TERMINATED = range(6)
@@ -420,12 +426,12 @@ tables("example", "Document 04's example as far as its operations are there; the
        *[(call, no(255, 1)) for call in ("170000000001", "190200000000")], ("150000000005", "000000000001"),
        *[(call, no(255, 1)) for call in ("1a0200000000", "1a0300000000")])
 
-tables("table-line", "Document 04's table, the first eight segments as printed there (04, the table line)",
+tables("table-line", "Document 04's table, the first nine segments as printed there (04, the table line)",
        ("018020000200", ok(1, 0)), ("010722000200", ok(2, 0)), (START, ok(2, 2)),
        ("160000000009", ok(0, 2),
         "0,0,0,255,0,1,1,0,-,0,8192,8192,0;1,1,0,128,0,5,5,0,-,8192,512,8704,0;2,2,2,7,0,5,5,0,-,8704,512,9216,0 | 0,1,2,3,3 | "
         "0,-,-,[]; 0,-,-,[]; 0,-,-,[]; 0,-,-,[]; | 0,[]; 0,[]; 0,[]; 0,[]; | 0,[2]; 0,[]; 0,[]; 0,[]; | 0,0,0,0,0,0,0,0,0,0,0,0,0,0,0,0 | "
-        "0,-,-,-,0;1,-,-,-,0;2,e,0,9,0 | 255,128,7,-,-,-,-,-,-,-,-,-,-,-,-,-"))
+        "0,-,-,-,0;1,-,-,-,0;2,e,0,9,0 | 255,128,7,-,-,-,-,-,-,-,-,-,-,-,-,- | 0"))
 
 tables("table-of-objects", "Owners, a handoff, queues, counts, a waiter and a charge in the table (04, the table line)",
        *added(9, 9, 9), (START, ok(1, 1)), (LOCK(0), ok(1, 1)), (LOCK(1), ok(1, 1)), (switch(0), ok(2, 2)), (LOCK(0), ok(0, 2)),
@@ -727,7 +733,7 @@ tables("mark-of-a-new-task", "The mark stays at exit where no limit was left; th
         table([UNTOUCHED, task(1, TERMINATED, rest=0), task(2, RUNNING, left=False)], "1,1,2,3,3", charges="0,1", limits={1: "-,-,-,1"})),
        (REAP(1), ok(0x2000, 2)),
        (add(0, 128), ok(3, 2),
-        table([UNTOUCHED, task(1, READY, left=False, id=3), task(2, RUNNING, left=False)], "1,1,2,3,4", charges="0,1")))
+        table([UNTOUCHED, task(1, READY, left=False, id=3), task(2, RUNNING, left=False)], "1,1,2,3,4", retired=1)))
 
 tables("limit-is-in-ticks", "A limit is in ticks at any rate, and its tick has 64 bits (02, W-202; 05, 12)",
        (fresh(100), ok(0, 0)), *added(128), (START, ok(1, 1)), (TICK, ok(0, 1)),
@@ -908,6 +914,134 @@ tables("ranks-when-a-limit-ends",
        (ACQUIRE_WITHIN(0, 2), ok(0, 2), ranks(255, 7, 7)), (switch(1), ok(1, 1)), (TICK, ok(0, 1), ranks(255, 7, 7)),
        (TICK, ok(1, 1), ranks(255, 200, 7)), (switch(0), ok(2, 2)))
 
+# W-206: charges go with the task. Worked out by hand: each tick after the start is one for the slot that is current then, in whatever state;
+# a reap takes what its slot has to the retired sum, and the slot has 0. In each table the charges and the sum add up to those ticks.
+
+tables("charge-of-a-new-task",
+       "1 has three ticks, ends and is reaped: they are the retired sum; 2 gets its slot with charge 0 and has its own two (02, W-206; 05, 41)",
+       *added(128), (START, ok(1, 1)), (TICK, ok(0, 1)), (TICK, ok(0, 1)),
+       (TICK, ok(0, 1), table([UNTOUCHED, task(1, RUNNING, left=False, rest=2)], "3,1,1,2,2", charges="0,3")),
+       (EXIT, ok(0, 1)), (switch(0), ok(0, 0)),
+       (REAP(1), ok(0x2000, 0), table([idle(RUNNING, left=False)], "3,1,0,1,2", retired=3)),
+       (add(0, 128), ok(2, 0), table([idle(RUNNING, left=False), task(1, READY, left=False, id=2)], "3,1,0,2,3", retired=3)),
+       # Idle has one, 3 + 1 + 2 are the six.
+       (TICK, ok(1, 0)), (IDLE, ok(1, 1)), (TICK, ok(0, 1)),
+       (TICK, ok(0, 1), table([idle(READY), task(1, RUNNING, left=False, id=2, rest=3)], "6,1,1,2,3", charges="1,2", retired=3)))
+
+tables("charge-moved-by-reap-one",
+       "The lowest that has ended, then the next; with none, or none but current, nothing is moved (02, W-206; 05, 41)",
+       *added(128, 128, 128), (START, ok(1, 1)), (TICK, ok(0, 1)), (EXIT, ok(0, 1)), (TICK, ok(1, 1)), (switch(0), ok(2, 2)), (TICK, ok(0, 2)),
+       (EXIT, ok(0, 2)), (switch(1), ok(3, 3)),
+       (TICK, ok(0, 3),
+        table([UNTOUCHED, task(1, TERMINATED, rest=0), task(2, TERMINATED, rest=0), task(3, RUNNING, left=False, rest=4)], "4,1,3,4,4",
+              charges="0,2,1,1")),
+       (REAP_ONE, ok(0x2000, 3),
+        table([UNTOUCHED, task(2, TERMINATED, rest=0), task(3, RUNNING, left=False, rest=4)], "4,1,3,3,4", charges="0,0,1,1", retired=2)),
+       (REAP_ONE, ok(0x2040, 3), table([UNTOUCHED, task(3, RUNNING, left=False, rest=4)], "4,1,3,2,4", charges="0,0,0,1", retired=3)),
+       (REAP_ONE, ok(NONE, 3), table([UNTOUCHED, task(3, RUNNING, left=False, rest=4)], "4,1,3,2,4", charges="0,0,0,1", retired=3)),
+       (EXIT, ok(0, 3)),
+       (REAP_ONE, ok(NONE, 3), table([UNTOUCHED, task(3, TERMINATED, left=False, rest=0)], "4,1,3,2,4", charges="0,0,0,1", retired=3)))
+
+tables("charges-of-several-reaps",
+       "Reaped by their ids, the higher slot first, 3 and 2 ticks; then one tick of another task in the lower slot: 3, 5, 6 (02, W-206; 05, 41)",
+       *added(128, 128, 128), (START, ok(1, 1)), *[(TICK, ok(0, 1))] * 2, (EXIT, ok(0, 1)), (switch(0), ok(2, 2)), *[(TICK, ok(0, 2))] * 3,
+       (EXIT, ok(0, 2)), (switch(1), ok(3, 3)),
+       (REAP(2), ok(0x2040, 3),
+        table([UNTOUCHED, task(1, TERMINATED, rest=0), task(3, RUNNING, left=False)], "5,1,3,3,4", charges="0,2", retired=3)),
+       (REAP(1), ok(0x2000, 3), table([UNTOUCHED, task(3, RUNNING, left=False)], "5,1,3,2,4", retired=5)),
+       (add(0, 128), ok(4, 3)), (switch(2), ok(1, 1)),
+       (TICK, ok(0, 1), table([UNTOUCHED, task(1, RUNNING, left=False, id=4, rest=4), task(3, READY)], "6,1,1,3,5", charges="0,1", retired=5)),
+       (EXIT, ok(0, 1)), (switch(0), ok(3, 3)), (REAP(4), ok(0x2000, 3), table([UNTOUCHED, task(3, RUNNING)], "6,1,3,2,5", retired=6)))
+
+# Idle has tick 1, task 1 tick 2, task 2 ticks 3 and 4, task 3 tick 5 and, ended, tick 6; task 1 is reaped between.
+AT_REFUSED_REAPS = table([idle(READY), task(2, READY, rest=3), task(3, TERMINATED, left=False, rest=0)], "6,1,3,3,4", charges="1,0,2,2", retired=1)
+tables("charge-at-a-refused-reap",
+       "9 of idle, of current, ended or not, of one that is Ready; 8 of ids that are gone or never were: charges and sum stay (02, W-206; 05, 41)",
+       (START, ok(0, 0)), (TICK, ok(1, 0)), (add(0, 128), ok(1, 0)), (add(1, 128), ok(2, 0)), (add(2, 128), ok(3, 0)), (IDLE, ok(1, 1)),
+       (TICK, ok(0, 1)), (EXIT, ok(0, 1)), (switch(0), ok(2, 2)), (TICK, ok(0, 2)), (REAP(1), ok(0x2000, 2)), (TICK, ok(0, 2)),
+       (switch(1), ok(3, 3)), (TICK, ok(0, 3)), (EXIT, ok(0, 3)), (TICK, ok(1, 3), AT_REFUSED_REAPS),
+       *[(REAP(id), no(9, 3), AT_REFUSED_REAPS) for id in (0, 3, 2)], *[(REAP(id), no(8, 3), AT_REFUSED_REAPS) for id in (1, 4, NONE)],
+       (REAP_ONE, ok(NONE, 3), AT_REFUSED_REAPS), (switch(2), ok(2, 2)),
+       (REAP(2), no(9, 2), table([idle(READY), task(2, RUNNING, rest=3), task(3, TERMINATED, rest=0)], "6,1,2,3,4", charges="1,0,2,2", retired=1)),
+       (REAP(3), ok(0x2080, 2), table([idle(READY), task(2, RUNNING, rest=3)], "6,1,2,2,4", charges="1,0,2", retired=3)))
+
+tables("ticks-before-the-start",
+       "Three ticks before the start are nobody's; of four in all one is in the retired sum at the end (02, W-206; 01, Tick)",
+       *added(128, 128), *[(TICK, ok(0, 0))] * 3, (REAP_ONE, ok(NONE, 0)),
+       (REAP(1), no(9, 0), table([UNTOUCHED, task(1, READY, left=False), task(2, READY, left=False)], "3,0,0,3,3")),
+       (START, ok(1, 1)),
+       (TICK, ok(0, 1), table([UNTOUCHED, task(1, RUNNING, left=False, rest=4), task(2, READY, left=False)], "4,1,1,3,3", charges="0,1")),
+       (EXIT, ok(0, 1)), (switch(0), ok(2, 2)), (REAP_ONE, ok(0x2000, 2), table([UNTOUCHED, task(2, RUNNING, left=False)], "4,1,2,2,3", retired=1)))
+
+# Task 1 has two ticks and is reaped: 2. None of the calls after that is a reap.
+tables("retired-sum-stays",
+       "Add, ticks, turns, object calls and all others leave the retired sum; fresh with hz 0 too, and an accepted one makes it 0 (02, W-206)",
+       *added(128, 128), (START, ok(1, 1)), *[(TICK, ok(0, 1))] * 2, (EXIT, ok(0, 1)), (switch(0), ok(2, 2)),
+       (REAP(1), ok(0x2000, 2), ranks(255, None, 128, retired=2)), (add(0, 128, 8), no(5, 2), ranks(255, None, 128, retired=2)),
+       *[(call, answer, ranks(255, 200, 128, retired=2)) for call, answer in (
+           (add(0, 200), ok(3, 2)), (START, no(3, 2)), (LOCK(0), ok(1, 2)), (EXIT, no(11, 2)), (UNLOCK(0), ok(0, 2)), (TRY_LOCK(1), ok(1, 2)),
+           (RELEASE(0), ok(0, 2)), (ACQUIRE(0), ok(1, 2)), (TRY_ACQUIRE(0), ok(0, 2)), (SIGNAL(0), ok(0, 2)), (EVENT_WAIT(0), ok(1, 2)),
+           (WAKE(3), ok(0, 2)), (result(3, 1), ok(0, 2)), (CURRENT_ID, ok(2, 2)), (records(3), ok(3, 2, "0,0,255,0,8192;3,0,200,0,64;2,1,128,0,64")),
+           (milliseconds(5), ok(5, 2)), (word(2100, 0), ok(0, 2)), (WAIT(1), no(8, 2)), (SLEEP(1), ok(0, 2)), (switch(1), ok(1, 1)),
+           (TICK, ok(1, 1)), (switch(0), ok(2, 2)), (WAIT(3), ok(0, 2)), (BLOCK, ok(0, 2)), (status(4), ok(0, 2)), (TICK, ok(1, 2)),
+           ("030000000001", no(255, 2)), (fresh(0), no(7, 2)))],
+       (fresh(1000), ok(0, 0), FRESH), (START, ok(0, 0)),
+       (TICK, ok(1, 0), table(["0,0,1,255,0,1,1,0,-,0,8192,8192,0"], "1,1,0,1,1", charges="1")))
+
+tables("charge-of-a-task-that-has-ended",
+       "Ended and still current it is charged on, twice here; no more once another one runs; its reap moves all three (02, W-206; 01, Tick)",
+       *added(128, 128), (START, ok(1, 1)), (TICK, ok(0, 1)), (EXIT, ok(0, 1)), (TICK, ok(1, 1)),
+       (TICK, ok(1, 1), table([UNTOUCHED, task(1, TERMINATED, left=False, rest=0), task(2, READY, left=False)], "3,1,1,3,3", charges="0,3")),
+       (REAP(1), no(9, 1)), (switch(0), ok(2, 2)),
+       (TICK, ok(0, 2), table([UNTOUCHED, task(1, TERMINATED, rest=0), task(2, RUNNING, left=False, rest=4)], "4,1,2,3,3", charges="0,3,1")),
+       (REAP(1), ok(0x2000, 2), table([UNTOUCHED, task(2, RUNNING, left=False, rest=4)], "4,1,2,2,3", charges="0,0,1", retired=3)))
+
+tables("charge-of-a-revived-task",
+       "Exit moves nothing: made Ready by status the task goes on with its charge; its reap moves what it had before and after (02, W-206)",
+       *added(128), (START, ok(1, 1)), (TICK, ok(0, 1)), (EXIT, ok(0, 1)),
+       (status(0), ok(0, 1), table([UNTOUCHED, task(1, READY, left=False, rest=0)], "1,1,1,2,2", charges="0,1")), (switch(0), ok(1, 1)),
+       (TICK, ok(0, 1), table([UNTOUCHED, task(1, RUNNING, rest=4)], "2,1,1,2,2", charges="0,2")), (EXIT, ok(0, 1)), (switch(0), ok(0, 0)),
+       (REAP_ONE, ok(0x2000, 0), table([idle(RUNNING, left=False)], "2,1,0,1,2", retired=2)))
+
+# Before the first of the two turns of 1, at tick 5, slot 2 has 5. Between them 2 has two ticks and 3 has two: four while others were current.
+# Slot 2 falls from 5 to 0, slot 3 rises from 0 to 2: the other slots together by 3 less than nothing, and the sum by 7.
+tables("charges-between-two-turns",
+       "Others have four ticks between two turns of 1; one of them is reaped, its slot added to: the slots fall by 3, the sum rises by 7 (02, W-206)",
+       *added(128, 128, 128), (START, ok(1, 1)), (switch(0), ok(2, 2)), *[(TICK, ok(0, 2))] * 4, (TICK, ok(1, 2)), (switch(1), ok(3, 3)),
+       (switch(2), ok(1, 1), table([UNTOUCHED, task(1, RUNNING), task(2, READY), task(3, READY)], "5,1,1,4,4", charges="0,0,5")),
+       (switch(0), ok(2, 2)), *[(TICK, ok(0, 2))] * 2, (EXIT, ok(0, 2)), (switch(1), ok(3, 3)), (TICK, ok(0, 3)),
+       (REAP(2), ok(0x2040, 3), table([UNTOUCHED, task(1, READY), task(3, RUNNING, rest=4)], "8,1,3,3,4", charges="0,0,0,1", retired=7)),
+       (add(1, 128), ok(4, 3)),
+       (TICK, ok(0, 3),
+        table([UNTOUCHED, task(1, READY), task(2, READY, left=False, id=4), task(3, RUNNING, rest=3)], "9,1,3,4,5", charges="0,0,0,2", retired=7)),
+       (switch(2), ok(1, 1)))
+
+ALL_BUT_ONE = [UNTOUCHED, task(1, RUNNING, left=False, priority=200), *[task(at, READY, left=False, priority=200) for at in range(2, 15)]]
+tables("charge-of-the-last-slot",
+       "Slot 15 has two ticks, one of them after its end; reap one moves them, and the next task there has 0 (02, W-206)",
+       *added(*[200] * 14, 7), (START, ok(15, 15)), (TICK, ok(0, 15)), (EXIT, ok(0, 15)), (TICK, ok(1, 15)), (switch(14), ok(1, 1)),
+       (REAP_ONE, ok(0x2380, 1), table(ALL_BUT_ONE, "2,1,1,15,16", retired=2)),
+       (add(14, 200), ok(16, 1), table([*ALL_BUT_ONE, task(15, READY, left=False, id=16, priority=200)], "2,1,1,16,17", retired=2)))
+
+
+def fifteen_ended(gone, retired):
+    """Idle is current; of the tasks 1 to 15, which have ended, those are gone. Each has as many ticks as its number."""
+    left = [at for at in range(1, 16) if at not in gone]
+    return table([idle(RUNNING, left=False), *[task(at, TERMINATED, rest=0) for at in left]], f"120,1,0,{1 + len(left)},16",
+                 charges=",".join(str(at if at in left else 0) for at in range(16)), retired=retired)
+
+
+# 14 + 12 + 10 + 8 + 6 + 4 + 2 are 56; 1 + 3 + 5 + 7 + 9 + 11 + 13 + 15 are 64.
+tables("charges-of-fifteen",
+       "1 to 15 end and have as many ticks as their numbers; the even ones are reaped from the last on, the odd ones by reap one: 120 (02, W-206)",
+       *added(*[128] * 15), (START, ok(1, 1)),
+       *[pair for at in range(1, 16) for pair in ((EXIT, ok(0, at)), *[(TICK, ok(1, at))] * at, (switch(at - 1), ok(*[(at + 1) % 16] * 2)))],
+       *[(REAP(id), ok(8128 + 64 * id, 0), fifteen_ended(range(id, 16, 2), retired))
+         for id, retired in ((14, 14), (12, 26), (10, 36), (8, 44), (6, 50), (4, 54), (2, 56))],
+       *[(REAP_ONE, ok(8128 + 64 * at, 0), fifteen_ended({*range(2, 16, 2), *range(1, at + 1, 2)}, retired))
+         for at, retired in ((1, 57), (3, 60), (5, 65), (7, 72), (9, 81), (11, 92), (13, 105), (15, 120))],
+       (REAP_ONE, ok(NONE, 0), table([idle(RUNNING, left=False)], "120,1,0,1,16", retired=120)))
+
 # Current id and result
 
 tables("current-id", "2 before the start; then the id of the task in slot current, which is not the slot (01, state calls; 04)",
@@ -1042,11 +1176,63 @@ late("sleep-at-the-last-tick", "The same of sleeps, which are as before (01, sta
             charges="0,0,12")),
      (TICK, no(18, 2)))
 
+late("charges-at-the-last-tick",
+     "Twelve ticks are left: 1 has five, 2 seven; a tick that is 18 is nobody's, and 1's are moved by its reap all the same (02, W-206)",
+     *added(128, 128), (START, ok(1, 1)), *[(TICK, ok(0, 1))] * 4, (TICK, ok(1, 1)), (EXIT, ok(0, 1)), (switch(0), ok(2, 2)),
+     *[(TICK, ok(0, 2))] * 4, (TICK, ok(1, 2)), (TICK, ok(0, 2)),
+     *[(TICK, answer, table([UNTOUCHED, task(1, TERMINATED, rest=0), task(2, RUNNING, left=False, rest=3)], "18446744073709551615,1,2,3,3",
+                            charges="0,5,7")) for answer in (ok(0, 2), no(18, 2))],
+     (REAP(1), ok(0x2000, 2), table([UNTOUCHED, task(2, RUNNING, left=False, rest=3)], "18446744073709551615,1,2,2,3", charges="0,0,7", retired=5)),
+     (add(0, 128), ok(3, 2)),
+     (TICK, no(18, 2),
+      table([UNTOUCHED, task(1, READY, left=False, id=3), task(2, RUNNING, left=False, rest=3)], "18446744073709551615,1,2,3,4",
+            charges="0,0,7", retired=5)))
+
+
+# Kernels that no list comes to
+
+# By hand, for each of model.ODD, the charges and the retired sum added up, and whether that is at most tick_count. In 64 bits the sums from
+# 2^64 on would wrap: 2^64 to 0, 17 * (2^64 - 1) to 2^64 - 17, 2^64 + 5 to 5.
+SUMS = [(0, True), (10, True), (11, False), (10, False), (10, True), (11, False), (10, True), (11, False), (11, False), (11, False), (17, True),
+        (17, False), (2**64 - 1, True), (2**64 - 1, True), (2**64, False), (2**64, False), (2**64 - 1, True), (2**64, False),
+        (17 * (2**64 - 1), False), (2**64 + 5, False), (9, True), (2**64 - 12, True)]
+
+
+def looked_at(hz, added_up, whole):
+    """The n-th kernel: the calls by which `tables` looks at each kernel anew are 1, or are accepted; current id is 2 then."""
+    tick, charges, retired = model.ODD[hz - 1]
+    assert sum(charges.values()) + retired == added_up
+    after = table([UNTOUCHED], f"{tick},0,0,1,1", charges=",".join(str(charges.get(at, 0)) for at in range(16)), retired=retired)
+    return [(fresh(hz), ok(0, 0), after), (CURRENT_ID, no(2 if whole else 1, 0), after),
+            (records(1), ok(1, 0, "0,0,255,0,8192") if whole else no(1, 0), after), (records(0), no(21 if whole else 1, 0), after),
+            (result(0, 0), ok(0, 0) if whole else no(1, 0), after), (milliseconds(0), ok(0, 0) if whole else no(1, 0), after)]
+
+
+odd("whole-by-the-sum",
+    "All sixteen charges, of empty slots too, and the retired sum are together at most tick_count, or a call is 1; no sum wraps (02, W-206; 05, 42)",
+    *[call for hz, (added_up, whole) in enumerate(SUMS, 1) for call in looked_at(hz, added_up, whole)])
+
+odd("charge-of-an-empty-slot",
+    "Slots 1 and 2 are empty and have 3 and 4: add puts 0 into slot 1, and no sum has the 3 any more (05, 41)",
+    (fresh(21), ok(0, 0), table([UNTOUCHED], "10,0,0,1,1", charges="0,3,4", retired=2)),
+    (add(0, 128), ok(1, 0), table([UNTOUCHED, task(1, READY, left=False)], "10,0,0,2,2", charges="0,0,4", retired=2)),
+    (result(0, 0), ok(0, 0)), (add(1, 128), ok(2, 0)), (START, ok(1, 1)),
+    (TICK, ok(0, 1), table([UNTOUCHED, task(1, RUNNING, left=False, rest=4), task(2, READY, left=False)], "11,1,1,3,3", charges="0,1", retired=2)))
+
+odd("retired-sum-of-64-bits",
+    "At 2^64 - 10 the retired sum is 2^64 - 12; two ticks and a reap make 2^64 - 8 and 2^64 - 10 of them (02, W-206)",
+    (fresh(22), ok(0, 0)), (add(0, 128), ok(1, 0)), (START, ok(1, 1)), (TICK, ok(0, 1)),
+    (TICK, ok(0, 1),
+     table([UNTOUCHED, task(1, RUNNING, left=False, rest=3)], "18446744073709551608,1,1,2,2", charges="0,2", retired=18446744073709551604)),
+    (EXIT, ok(0, 1)), (switch(0), ok(0, 0)),
+    (REAP(1), ok(0x2000, 0), table([idle(RUNNING, left=False)], "18446744073709551608,1,0,1,2", retired=18446744073709551606)),
+    (result(0, 0), ok(0, 0)), (CURRENT_ID, ok(0, 0)))
+
 
 def played(program, lines):
     """What the model prints: an answer for each line and, but for `turns`, a table."""
     out = []
-    model.run("".join(call + "\n" for call in lines).encode(), program != "turns", out, model.LATE if program == "late" else 0)
+    model.run("".join(call + "\n" for call in lines).encode(), program != "turns", out, model.LATE if program == "late" else 0, program == "odd")
     return [text.rstrip("\n") for text in out]
 
 
@@ -1082,7 +1268,7 @@ def check(program, name, calls):
     """Holds the case to the model and the reference; gives what is printed."""
     lines, printed = [call[0] for call in calls], played(program, [call[0] for call in calls])
     answers = printed if program == "turns" else printed[::2]
-    (end, request), asked, mine = compared(program, lines) if program != "late" else (-1, None), [], []
+    (end, request), asked, mine = compared(program, lines) if program not in ("late", "odd") else (-1, None), [], []
     for at, (call, answer, *after) in enumerate(calls):
         assert answers[at] == answer, (name, at, call, answers[at], answer)
         for want in after:

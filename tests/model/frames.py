@@ -1,15 +1,15 @@
 #!/usr/bin/env python3
 """Random lists for `turns` or `tables` that meet every refusal that a list from fresh can meet there, with malformed lines; lists
 in which release or signal drops up to eight heads; lists with chains of one to four links from waiter to owner and rings of two to
-four; and for `tables` lists in which limits end: out of queues of up to eight by their own ticks, and in every other way; and lists with
-the milliseconds of ticks, at many rates.
+four; and for `tables` lists in which limits end: out of queues of up to eight by their own ticks, and in every other way; lists with
+the milliseconds of ticks, at many rates; and lists in which tasks with charges are reaped and others get their slots.
 
   frames.py SEED LINES MALFORMED LISTS turns|tables PROGRAM [ARG..]
         LISTS lists of LINES lines, from SEED on, MALFORMED of them malformed (0.03 is 3 in 100), and ten times as many of
         each other kind; runs PROGRAM on each and compares with model.py, byte for byte
   frames.py late SEED LISTS PROGRAM [ARG..]
-        LISTS lists with limits and sleeps in the last ticks before 2^64 - 1, for a `tables` whose fresh kernel begins at
-        model.LATE (tests/differential/unproved.py makes it)"""
+        LISTS lists with limits and sleeps in the last ticks before 2^64 - 1, and as many with charges, for a `tables` whose fresh
+        kernel begins at model.LATE (tests/differential/unproved.py makes it)"""
 import random
 import sys
 
@@ -527,9 +527,95 @@ def times(seed):
     return b"\n".join(out)
 
 
+def charges(seed, tick=0):
+    """A list of `tables`, as bytes: by the seed each slot from 1 to 15 in turn, reaped by its id or by reap one. Up to fifteen tasks have ticks,
+    the one in that slot ends and has some more while it is current; reaps that are refused or find none; it is reaped, and another one gets
+    its slot and has ticks. Then calls of all kinds that charge, end, reap and add."""
+    rng, machine, out = random.Random(seed), model.Machine(True, tick), []
+
+    def call(op, k=0, y=0):
+        out.append(f"{op:02x}{k:02x}{y:08x}".encode())
+        machine.step(out[-1])
+
+    def switch():
+        call(4, 0, machine.kernel.own().start)
+
+    def add():
+        present = [task.start for task in machine.kernel.slots if task is not None]
+        call(1, rng.choice([7, 8, 8, 8]), rng.choice([start for start in range(8192, 8448, 16) if start not in present]) << 16 | 16)
+
+    def ids(state=None):
+        return [task.id for task in machine.kernel.slots if task is not None and state in (None, task.state)]
+
+    def refused():
+        """Reaps of tasks that are there to stay, and of none."""
+        own, ended = machine.kernel.own().id, ids(model.TERMINATED)
+        for y in rng.sample([id for id in ids() if id == own or id not in ended], min(3, len(ids()) - 1)):
+            call(7, 0, y)
+        call(7, 0, machine.kernel.next_id)
+        if ended in ([], [own]):
+            call(0x14)
+
+    slot, reap = seed % 15 + 1, (7, 0x14)[seed // 15 % 2]
+    count, first = rng.randrange(slot, 16), rng.random() < .5
+    for _ in range(rng.randrange(3)):
+        call(3)
+    for at in range(1, count + 1):
+        call(1, 7 if first and at == slot else 8, (8176 + 16 * at) << 16 | 16)
+    call(2)
+    # Ticks for those that come before it; it has the first turn, or its own.
+    while machine.kernel.current != slot:
+        for _ in range(rng.randrange(3)):
+            call(3)
+        if rng.random() < .3:
+            call(*rng.choice([(8, 0, rng.randrange(1, 20)), (0x12, 4), (0x13,)]))
+        switch()
+    # At times more than a byte holds.
+    for _ in range(rng.randrange(256, 400) if seed % 16 == 5 and tick == 0 else rng.randrange(4)):
+        call(3)
+    call(5)
+    for _ in range(rng.randrange(3)):
+        call(3)
+    refused()
+    switch()
+    for _ in range(rng.randrange(3)):
+        call(3)
+    refused()
+    id = machine.kernel.slots[slot].id
+    call(reap, 0, id if reap == 7 else 0)
+    refused()
+    call(7, 0, id)
+    if rng.random() < .9:
+        add()
+    # Every second time none are added, and idle has turns.
+    adds = seed // 30 % 2 * 4
+    for _ in range(rng.randrange(10, 80)):
+        op = rng.choice([3] * 10 + [4] * 8 + [5] * 4 + [7] * 5 + [0x14] * 3 + [1] * adds + [8, 8, 9, 0x12, 0x12, 0x13, 6])
+        if op == 1:
+            add()
+        elif op == 4:
+            switch()
+        elif op == 7:
+            call(op, 0, rng.choice(rng.choice([ids(model.TERMINATED), ids(), [machine.kernel.own().id]]) or [0]))
+        elif op in (6, 9):
+            call(op, 0, rng.choice(ids()))
+        elif op == 8:
+            call(op, 0, rng.randrange(4))
+        elif op == 0x12:
+            call(op, rng.choice([0, 2, 3, 4]))
+        else:
+            call(op)
+    if seed % 4 == 0:
+        # Another kernel, or hz 0 and the same.
+        call(0x1f, 0, rng.choice([0, 0, 1000]))
+        for op in (3, 2, 3):
+            call(op)
+    return b"\n".join(out)
+
+
 if __name__ == "__main__":
     if len(sys.argv) > 4 and sys.argv[1] == "late":
-        made = [limits(seed, model.LATE) for seed in range(int(sys.argv[2]), int(sys.argv[2]) + int(sys.argv[3]))]
+        made = [kind(seed, model.LATE) for kind in (limits, charges) for seed in range(int(sys.argv[2]), int(sys.argv[2]) + int(sys.argv[3]))]
         against.compare(made, "tables", sys.argv[4:], model.LATE)
         sys.exit()
     if len(sys.argv) < 7 or sys.argv[5] not in ("turns", "tables"):
@@ -537,5 +623,5 @@ if __name__ == "__main__":
     first, lines, share, lists = int(sys.argv[1]), int(sys.argv[2]), float(sys.argv[3]), int(sys.argv[4])
     made = [make(seed, lines, share, sys.argv[5] == "tables") for seed in range(first, first + lists)]
     made += [kind(seed) for kind in (queues, chains) for seed in range(first, first + 10 * lists)]
-    made += [kind(seed) for kind in (limits, ended, times) for seed in range(first, first + 10 * lists) if sys.argv[5] == "tables"]
+    made += [kind(seed) for kind in (limits, ended, times, charges) for seed in range(first, first + 10 * lists) if sys.argv[5] == "tables"]
     against.compare(made, sys.argv[5], sys.argv[6:])

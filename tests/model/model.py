@@ -1,13 +1,14 @@
 #!/usr/bin/env python3
-"""A model of document 01's step with document 02's W-201, W-202, W-204 and W-205, following the words of documents 01 to 05. Its author
-had read the published Rust too.
+"""A model of document 01's step with document 02's W-201, W-202, W-204, W-205 and W-206, following the words of documents 01 to 05. Its
+author had read the published Rust too.
 
   model.py turns    standard input as `turns` reads it; prints what `turns` prints
   model.py tables   the same for `tables`, which has operations of its own: after each answer the table
-  model.py replay   lists of `tables` parted by `new`; prints as the reference does: tables without charges, limits
-                    and ranks, the values of wake, release and signal as 0
+  model.py replay   lists of `tables` parted by `new`; prints as the reference does: tables without charges, limits,
+                    ranks and the retired sum, the values of wake, release and signal as 0
 
-Every refusal that a list from fresh can meet is there, and those that only other kernels can meet (6, 15, 18, 19) too."""
+Every refusal that a list from fresh can meet is there, and those that only other kernels can meet (6, 15, 18, 19) too; 1 by the charges alone
+(ODD). After every line W-206's law is asserted: see Machine.adds_up."""
 import sys
 from collections import Counter
 
@@ -17,6 +18,13 @@ PAINT = 0xDEADBEEF
 U32 = 0xFFFFFFFF
 U64 = 0xFFFFFFFFFFFFFFFF
 LATE = U64 - 12      # for tests of the last ticks: where a fresh kernel begins in them
+# For tests of kernels that no list from fresh comes to: tick_count, charges by slot and retired sum that fresh with hz n gives in them, n being
+# the place, from 1.
+ODD = [(0, {}, 0), (10, {0: 1, 1: 2, 15: 3}, 4), (10, {0: 1, 1: 2, 15: 3}, 5), (9, {0: 1, 1: 2, 15: 3}, 4), (10, {}, 10), (10, {}, 11),
+       (10, {7: 10}, 0), (10, {7: 11}, 0), (10, {15: 1}, 10), (10, {0: 10, 15: 1}, 0), (17, {at: 1 for at in range(16)}, 1),
+       (16, {at: 1 for at in range(16)}, 1), (U64, {0: U64}, 0), (U64, {}, U64), (U64, {0: U64}, 1), (U64, {0: 1 << 63, 1: 1 << 63}, 0),
+       (U64, {at: (1 << 60) - 1 for at in range(16)}, 15), (U64, {at: (1 << 60) - 1 for at in range(16)}, 16),
+       (U64, {at: U64 for at in range(16)}, U64), (5, {0: U64, 1: 6}, 0), (10, {1: 3, 2: 4}, 2), (U64 - 9, {}, U64 - 11)]
 
 
 def ms_to_ticks(hz, ms):
@@ -111,6 +119,7 @@ class Kernel:
         self.slots = [None] * SLOTS
         self.slots[0] = Task(0, 255, 0, 8192, 1)
         self.charges = [0] * SLOTS
+        self.retired = 0        # the charges of those that were reaped
         self.tick_count = 0
         self.started = False
         self.current = 0
@@ -122,9 +131,15 @@ class Kernel:
         # For tests: the states of the heads that release or signal dropped, and how many ids stay; what a tick found.
         self.dropped, self.left = [], 0
         self.due, self.slept = [], []
+        # For tests: of each slot that was emptied the charge that was moved then.
+        self.moved = {}
         arena[0:2048] = [PAINT] * 2048
 
     # Help
+
+    def whole(self):
+        """As 02 has it: all sixteen charges and the retired sum are at most tick_count. What else 01 asks is so of every kernel here."""
+        return sum(self.charges) + self.retired <= self.tick_count
 
     def own(self):
         return self.slots[self.current]
@@ -231,6 +246,7 @@ class Kernel:
         if self.next_id > U32:
             return 6, 0
         self.slots[free[0]] = Task(self.next_id, priority, start, size, SLICE)
+        self.charges[free[0]] = 0
         self.next_id += 1
         self.task_count += 1
         arena[start // 4:(start + size) // 4] = [PAINT] * (size // 4)
@@ -368,9 +384,12 @@ class Kernel:
         return 0, 0
 
     def empty(self, at):
+        """Reaping: the slot's charge goes into the retired sum."""
         start = self.slots[at].start
         self.slots[at] = None
         self.task_count -= 1
+        self.moved[at] = self.charges[at]
+        self.retired, self.charges[at] = self.retired + self.charges[at], 0
         return 0, start
 
     def reap(self, id):
@@ -563,7 +582,8 @@ class Kernel:
         parts.append(" ".join(f"{s.count},{queue(s.queue)};" for s in self.semaphores))
         parts.append(" ".join(f"{int(e.signalled)},{queue(e.queue)};" for e in self.events))
         if all:
-            parts += [",".join(map(str, self.charges)), self.limits(), ",".join("-" if rank is None else str(rank) for rank in self.ranks())]
+            parts += [",".join(map(str, self.charges)), self.limits(), ",".join("-" if rank is None else str(rank) for rank in self.ranks()),
+                      str(self.retired)]
         return " | ".join(parts)
 
 
@@ -617,17 +637,32 @@ TABLES = {
 class Machine:
     """What is under `turns` or `tables`: a line in, an answer out."""
 
-    def __init__(self, tables, tick=0):
-        """Tick: with which tick_count a fresh kernel begins, for tests of the last ticks."""
+    def __init__(self, tables, tick=0, odd=False):
+        """Tick: with which tick_count a fresh kernel begins, for tests of the last ticks. Odd: fresh gives the kernels of ODD too."""
         self.operations = TABLES if tables else TURNS
-        self.arena, self.tick = [0] * 4096, tick
+        self.arena, self.tick, self.odd = [0] * 4096, tick, odd
         self.fresh(1000)
+
+    def adds_up(self):
+        """W-206, of every list from fresh: the charges of occupied slots and the retired sum are the ticks accepted after the start, and
+        empty slots have 0. Together they are at most tick_count then: the kernel is whole."""
+        kernel, occupied, empty = self.kernel, 0, 0
+        for task, charge in zip(kernel.slots, kernel.charges):
+            if task is None:
+                empty += charge
+            else:
+                occupied += charge
+        return empty == 0 and occupied + kernel.retired == self.ticks and kernel.whole()
 
     def fresh(self, hz):
         number, kernel = fresh(hz, self.arena)
         if number == 0:
             self.kernel = kernel
             kernel.tick_count = self.tick
+            self.ticks = 0      # accepted after the start
+            if self.odd and hz <= len(ODD):
+                kernel.tick_count, charges, kernel.retired = ODD[hz - 1]
+                kernel.charges = [charges.get(at, 0) for at in range(SLOTS)]
         return number, 0
 
     def list(self, lent):
@@ -662,7 +697,13 @@ class Machine:
         used, call = self.operations[op]
         if k and "k" not in used or y and "y" not in used:
             return op, 0xFF, 0
+        started = self.kernel.started
+        if self.odd and op not in (0x1E, 0x1F) and not self.kernel.whole():
+            return op, 1, 0
         number, value = call(self, k, y)
+        if op == 0x03 and number == 0 and started:
+            self.ticks += 1
+        assert self.odd or self.adds_up(), line
         return op, number, U32 if value is None else value
 
     def answer(self, number, value):
@@ -729,6 +770,67 @@ def times_met(kernel, k, y, number):
         yield rate, "past 2^64"
         if (1000 * ticks & U64) // hz <= U32:
             yield rate, "past 2^64, accepted if it wrapped"
+
+
+# The operations that alter a charge or the retired sum.
+CHARGING = (b"01", b"03", b"07", b"14", b"1f")
+
+
+def charges_before(kernel):
+    """What charges_met is given of the kernel before the call."""
+    return [*kernel.charges], kernel.retired, kernel.states(), kernel.current, kernel.started, {**kernel.moved}
+
+
+def charges_met(before, kernel, op, y, number):
+    """What one of CHARGING did to charges, as tuples; see CHARGES in tests/adversarial/run. Before it: see charges_before."""
+    charges, retired, states, current, started, moved = before
+    whose = lambda at: ("idle's",) if at == 0 else ("current's" if at == current else "another's", states[at])
+    if op == 0x01 and number == 0:
+        at = next(at for at in range(SLOTS) if states[at] == EMPTY)
+        yield "added", "a slot not used before" if at not in moved else "one with a charge before" if moved[at] else "one used before", retired > 0
+    if op == 0x03 and number == 18:
+        yield "tick", 18
+    elif op == 0x03 and not started:
+        yield "tick", "before the start"
+    elif op == 0x03:
+        yield "tick", *whose(current)
+        if moved.get(current):
+            yield "tick", "in a slot with a charge before", charges[current] > 0
+    if op in (0x07, 0x14) and number == 0:
+        at = next((at for at in range(SLOTS) if states[at] != EMPTY and kernel.slots[at] is None), None)
+        if at is None:
+            yield "none", "current has ended" if states[current] == TERMINATED and charges[current] else "otherwise", retired > 0
+        else:
+            yield "moved", op, "a charge" if charges[at] else "none", retired > 0
+            if charges[at]:
+                yield "moved from", at, op
+                if kernel.retired > 255:
+                    yield "moved, past 255", op
+                if kernel.tick_count == U64:
+                    yield "moved at the last tick", op
+    if op == 0x07 and number == 8 and retired:
+        yield "left", 8
+    if op == 0x07 and number == 9 and charges[kernel.find(y)]:
+        yield "left", 9, *whose(kernel.find(y))
+    if op == 0x1f and retired and any(charges):
+        yield "fresh", number
+
+
+def broken_law(lines, printed):
+    """W-206's law held to what `tables` printed for these lines, a fresh kernel's first, and to that alone: the first line, from 0, after which
+    the charges of occupied slots and the retired sum are not the ticks accepted after the start, or an empty slot has a charge; or None."""
+    ticks, started = 0, False
+    for n, line in enumerate(lines):
+        accepted, parts = printed[2 * n].startswith("00"), printed[2 * n + 1].rstrip("\n").split(" | ")
+        if accepted and line.startswith(b"1f"):
+            ticks = 0
+        elif accepted and line.startswith(b"03") and started:
+            ticks += 1
+        started = parts[1].split(",")[1] == "1"
+        charges, occupied = [int(charge) for charge in parts[5].split(",")], {int(slot.partition(",")[0]) for slot in parts[0].split(";")}
+        if sum(charges[at] for at in occupied) + int(parts[8]) != ticks or any(charges[at] for at in range(SLOTS) if at not in occupied):
+            return n
+    return None
 
 
 def wrong_ranks(kernel, links=LINKS, highest=False, skip=False, up=False):
@@ -814,16 +916,19 @@ def ranks_met(before, kernel, op):
             yield ("pick, none Ready", "lent" if old[0] < 255 else "not lent", "ranks change" if new != old else "no rank changes")
 
 
-def run(data, tables, out, tick=0):
+def run(data, tables, out, tick=0, odd=False):
     """Appends what `turns` or `tables` prints, line by line. Gives the pairs of operation and number that were met; of each
     release and signal that dropped heads the operation, their states (EMPTY for one that is gone) and how many ids stay queued; what
-    was done to limits; of which ticks milliseconds were asked; and what was to be seen of ranks, each with how often."""
-    machine, table, met, drops, limits, times, ranks = Machine(tables, tick), None, set(), set(), set(), set(), Counter()
+    was done to limits; of which ticks milliseconds were asked; what was to be seen of ranks, each with how often; and what was done to
+    charges, likewise."""
+    machine, table, met, drops, limits, times, ranks = Machine(tables, tick, odd), None, set(), set(), set(), set(), Counter()
+    charges = Counter()
     for line in lines_of(data):
         kernel = machine.kernel
         queues = any(mutex.queue for mutex in kernel.mutexes)
         seen = ([None if t is None else t.id for t in kernel.slots], *picks_of(kernel), kernel.current,
                 kernel.mutexes_of(kernel.current)) if queues or line[:2] == b"0a" else None
+        charged = charges_before(kernel) if tables and line[:2] in CHARGING else None
         current, before = kernel.current, {at: (t.id, t.limit, t.ended) for at, t in enumerate(kernel.slots) if t is not None} if tables else {}
         op, number, value = machine.step(line)
         met.add((op, number))
@@ -835,12 +940,14 @@ def run(data, tables, out, tick=0):
             times.update(times_met(kernel, int(line[2:4], 16), int(line[4:12], 16), number))
         if seen and kernel is machine.kernel and number == 0:
             ranks.update(set(ranks_met(seen, kernel, op)))
+        if charged and number != 0xFF:
+            charges.update(charges_met(charged, kernel, op, int(line[4:12], 16), number))
         out.append(machine.answer(number, value))
         if tables:
             if number == 0 or table is None:    # a refusal alters nothing
                 table = machine.kernel.table() + "\n"
             out.append(table)
-    return met, drops, limits, times, ranks
+    return met, drops, limits, times, ranks, charges
 
 
 def replay(data, out):

@@ -1,4 +1,4 @@
--- Counted loops: one invariant for all of them, and what `all`, `any`, `count`, `lowest`, `largest` and `smallest` tell of each number.
+-- Counted loops: one invariant for all of them, and what `all`, `any`, `count`, `sum`, `lowest`, `largest` and `smallest` tell of each number.
 use Prim.Native.Nat.{ℕ, zero, suc, _+_, _-_, _≤_, _<_, zero-le, min}
 use native.Mathlib.Omega.{arith}
 use native.Mathlib.Nat.{le-refl}
@@ -15,7 +15,7 @@ use native.Mathlib.Numerals.{add-one}
 use mir.Val.{boolByte}
 use borrow.Author.Tests.{lt-ltb, le-ltb, ltb-true, ltb-false}
 use Rattle.base.specs.Choice.{if_then_else_}
-use Rattle.base.specs.Below.{allBelow, anyBelow, countBelow, lowestBelow, largestBelow, smallestBelow, tabulate}
+use Rattle.base.specs.Below.{allBelow, anyBelow, countBelow, sumBelow, lowestBelow, largestBelow, smallestBelow, tabulate}
 use Rattle.base.proofs.Choices.{and-left, and-right, either, through}
 
 -- A loop's invariant: x is f of the i turns done, of n.
@@ -401,6 +401,56 @@ set-default d l x =
       | yes q ↦ getD-set-same l x d d q
       | no q ↦ List·getD-eq-default (set l x d) d (omega (arith, length-set l x d))
     ]
+
+-- ---- sum, of numbers and of what lists hold
+
+pub sum-start : (f : ℕ → ℕ) → sumBelow f 0 ≡ 0
+unfolding sumBelow
+sum-start f = refl
+
+pub sum-more : (f : ℕ → ℕ) (i : ℕ) → sumBelow f (i + 1) ≡ sumBelow f i + f i
+unfolding sumBelow
+sum-more f i = rw add-one
+
+-- two that agree below n
+pub sum-same : (f g : ℕ → ℕ) (n : ℕ) → ((i : ℕ) → i < n → f i ≡ g i) → sumBelow f n ≡ sumBelow g n
+unfolding sumBelow
+sum-same f g zero h = refl
+sum-same f g (suc n) h = rw (sum-same f g n (λ i l. h i (omega arith)), h n (omega arith))
+
+-- two that agree everywhere but at x
+pub sum-but : (f g : ℕ → ℕ) (n x : ℕ) → x < n → ((i : ℕ) → (i ≡ x → ⊥) → g i ≡ f i) → sumBelow g n + f x ≡ sumBelow f n + g x
+unfolding sumBelow
+sum-but f g zero x l h = absurd (omega arith)
+sum-but f g (suc n) x l h =
+    elim (ℕ-discrete n x) [
+      | yes e ↦ rw (e, sum-same g f x (λ i m. h i (λ d. omega arith))) (omega arith)
+      | no e ↦ omega (arith, sum-but f g n x (omega arith) h, h n e)
+    ]
+
+pub sum-none : (f : ℕ → ℕ) (n : ℕ) → ((i : ℕ) → i < n → f i ≡ 0) → sumBelow f n ≡ 0
+unfolding sumBelow
+sum-none f zero h = refl
+sum-none f (suc n) h = omega (arith, sum-none f n (λ i l. h i (omega arith)), h n (omega arith))
+
+-- a place of a list set to 0
+pub sum-clear : (l : List ℕ) (n x : ℕ) → x < n → sumBelow (λ i. getD (set l x 0) i 0) n + getD l x 0 ≡ sumBelow (λ i. getD l i 0) n
+sum-clear l n x h = omega (arith, sum-but (λ i. getD l i 0) (λ i. getD (set l x 0) i 0) n x h (λ i e. getD-set-other l x i 0 0 e), set-default 0 l x)
+
+-- fewer of them make no more
+pub sum-le : (f : ℕ → ℕ) (m n : ℕ) → m ≤ n → sumBelow f m ≤ sumBelow f n
+unfolding sumBelow
+sum-le f zero n h = zero-le
+sum-le f (suc m) zero h = absurd (omega arith)
+sum-le f (suc m) (suc n) h =
+    elim (ℕ-discrete m n) [
+      | yes e ↦ rw e (le-refl _)
+      | no e ↦ omega (arith, sum-le f (suc m) n (omega arith))
+    ]
+
+-- each is at most all of them
+pub sum-at : (f : ℕ → ℕ) (n x : ℕ) → x < n → f x ≤ sumBelow f n
+sum-at f n x h = omega (arith, sum-more f x, sum-le f (x + 1) n (omega arith))
 
 -- ---- the length of an array in a struct, which is known of its elements as they lie in memory
 pub unmapped : {A B : Type 0} (f : A → B) (l : List A) (n : ℕ) → length (map f l) ≡ n → length l ≡ n

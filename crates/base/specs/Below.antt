@@ -1,5 +1,5 @@
 -- What holds of the numbers below n, such as the sixteen slots.
-use Prim.Native.Nat.{ℕ, zero, suc, min}
+use Prim.Native.Nat.{ℕ, zero, suc, _+_, min}
 use mathlib.Core.Bool.{Bool, true, false, _&&_, _||_}
 use mathlib.Core.List.{List, [], _∷_, _++_}
 use lib.Dec.{ltb}
@@ -19,6 +19,11 @@ anyBelow p (suc n) = anyBelow p n || p n
 unfoldable pub countBelow : (ℕ → Bool) → ℕ → ℕ
 countBelow p zero = 0
 countBelow p (suc n) = if p n then suc (countBelow p n) else countBelow p n
+
+-- f of each of them, added up
+unfoldable pub sumBelow : (ℕ → ℕ) → ℕ → ℕ
+sumBelow f zero = 0
+sumBelow f (suc n) = sumBelow f n + f n
 
 -- the lowest of them that p holds of; n where there is none
 unfoldable pub lowestBelow : (ℕ → Bool) → ℕ → ℕ

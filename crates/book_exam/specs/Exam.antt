@@ -5,7 +5,7 @@ use mathlib.Core.Bool.{true}
 use mathlib.Core.List.{List, [], _∷_, map}
 use lib.ListN.{set, replicate}
 use Rattle.base.specs.Choice.{if_then_else_, every}
-use Rattle.base.specs.Below.{allBelow, anyBelow, countBelow, lowestBelow}
+use Rattle.base.specs.Below.{allBelow, anyBelow, countBelow, sumBelow, lowestBelow}
 use Rattle.kernel.specs.declared.wait_queue.WaitQueue.{WaitQueue}
 use Rattle.kernel.specs.declared.scheduler.Kernel.{Kernel}
 use Rattle.kernel.specs.declared.control.TaskState.the-variants.{Running}
@@ -108,5 +108,5 @@ pub wanted : Case → List ℕ
 wanted c = c .right
 
 pub exam : map given cases ≡ map wanted cases
-unfolding given wanted cases answer idle ready states priorities running line after if_then_else_ every allBelow anyBelow countBelow lowestBelow holdsTask regionFits position pushed enqueued arenaFits whole freshKernel isBest pick isDue isLimitDue woken visited walked clocked advanced Scheduler.sliced Scheduler.wants wantsSwitch Scheduler.tick Semaphore.acquire msToTicks number value effect step valueNumber pickBytes
+unfolding given wanted cases answer idle ready states priorities running line after if_then_else_ every allBelow anyBelow countBelow sumBelow lowestBelow holdsTask regionFits position pushed enqueued arenaFits whole freshKernel isBest pick isDue isLimitDue woken visited walked clocked advanced Scheduler.sliced Scheduler.wants wantsSwitch Scheduler.tick Semaphore.acquire msToTicks number value effect step valueNumber pickBytes
 exam = refl

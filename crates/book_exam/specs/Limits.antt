@@ -5,7 +5,7 @@ use mathlib.Core.Bool.{true, false}
 use mathlib.Core.List.{List, [], _∷_, _++_, map}
 use lib.ListN.{length, replicate}
 use Rattle.base.specs.Choice.{if_then_else_, every}
-use Rattle.base.specs.Below.{allBelow, anyBelow, countBelow, lowestBelow, tabulate}
+use Rattle.base.specs.Below.{allBelow, anyBelow, countBelow, sumBelow, lowestBelow, tabulate}
 use Rattle.kernel.specs.declared.control.LimitObject.the-variants.{AtSemaphore}
 use Rattle.kernel.specs.declared.control.TaskState.the-variants.{Running, Blocked}
 use Rattle.kernel.specs.declared.wait_queue.WaitQueue.{WaitQueue}
@@ -55,19 +55,19 @@ after c k = step k c .kernel
 -- one tick earlier nothing ends
 -- reading 26: a limit before tick_count is no reason to refuse, and ends with the next tick
 pub by-a-tick : (seen 1 (after tick (blocked (8 ∷ 1 ∷ 7 ∷ []) 10 9))) ∷ (seen 1 (after tick (blocked (8 ∷ 1 ∷ 7 ∷ []) 11 9))) ∷ (seen 1 (after tick (blocked (1 ∷ []) 5 9))) ∷ [] ≡ (0 ∷ 1 ∷ 0 ∷ 2 ∷ 8 ∷ 7 ∷ 0 ∷ []) ∷ (2 ∷ 0 ∷ 11 ∷ 3 ∷ 8 ∷ 1 ∷ 7 ∷ []) ∷ (0 ∷ 1 ∷ 0 ∷ 0 ∷ 0 ∷ 0 ∷ 0 ∷ []) ∷ []
-unfolding seen after blocked running idle-blocked line if_then_else_ every allBelow anyBelow countBelow lowestBelow tabulate holdsTask regionFits position pushed enqueued placeWithout without removed arenaFits whole freshKernel isBest pick isDue isLimitDue woken visited walked clocked advanced Scheduler.sliced Scheduler.wants wantsSwitch Scheduler.tick Scheduler.start Semaphore.acquireWithin number value effect step
+unfolding seen after blocked running idle-blocked line if_then_else_ every allBelow anyBelow countBelow sumBelow lowestBelow tabulate holdsTask regionFits position pushed enqueued placeWithout without removed arenaFits whole freshKernel isBest pick isDue isLimitDue woken visited walked clocked advanced Scheduler.sliced Scheduler.wants wantsSwitch Scheduler.tick Scheduler.start Semaphore.acquireWithin number value effect step
 by-a-tick = refl
 
 -- reading 25: an id that is not in that queue
 -- .. one that stands there twice, whose first place goes
 -- reading 24: a start that picks idle, Blocked since none is Ready, ends its limit; idle keeps its place
 pub of-odd-kernels : (seen 1 (after tick (blocked (8 ∷ 7 ∷ []) 10 9))) ∷ (seen 1 (after tick (blocked (1 ∷ 7 ∷ 1 ∷ []) 10 9))) ∷ (seen 0 (after start idle-blocked)) ∷ [] ≡ (0 ∷ 1 ∷ 0 ∷ 2 ∷ 8 ∷ 7 ∷ 0 ∷ []) ∷ (0 ∷ 1 ∷ 0 ∷ 2 ∷ 7 ∷ 1 ∷ 0 ∷ []) ∷ (1 ∷ 0 ∷ 0 ∷ 1 ∷ 0 ∷ 0 ∷ 0 ∷ []) ∷ []
-unfolding seen after blocked running idle-blocked line if_then_else_ every allBelow anyBelow countBelow lowestBelow tabulate holdsTask regionFits position pushed enqueued placeWithout without removed arenaFits whole freshKernel isBest pick isDue isLimitDue woken visited walked clocked advanced Scheduler.sliced Scheduler.wants wantsSwitch Scheduler.tick Scheduler.start Semaphore.acquireWithin number value effect step
+unfolding seen after blocked running idle-blocked line if_then_else_ every allBelow anyBelow countBelow sumBelow lowestBelow tabulate holdsTask regionFits position pushed enqueued placeWithout without removed arenaFits whole freshKernel isBest pick isDue isLimitDue woken visited walked clocked advanced Scheduler.sliced Scheduler.wants wantsSwitch Scheduler.tick Scheduler.start Semaphore.acquireWithin number value effect step
 of-odd-kernels = refl
 
 -- held at 2^64 - 1
 -- ended by the last tick
 -- one that began there is ended by no tick: tick is refused
 pub at-the-last-tick : (seen 1 (after (acquire-within 0 5) (running [] (2 ^ 64 - 3)))) ∷ (seen 1 (after tick (blocked (1 ∷ []) (2 ^ 64 - 1) (2 ^ 64 - 2)))) ∷ (seen 1 (after tick (blocked (1 ∷ []) (2 ^ 64 - 1) (2 ^ 64 - 1)))) ∷ [] ≡ (2 ∷ 0 ∷ (2 ^ 64 - 1) ∷ 1 ∷ 1 ∷ 0 ∷ 0 ∷ []) ∷ (0 ∷ 1 ∷ 0 ∷ 0 ∷ 0 ∷ 0 ∷ 0 ∷ []) ∷ (2 ∷ 0 ∷ (2 ^ 64 - 1) ∷ 1 ∷ 1 ∷ 0 ∷ 0 ∷ []) ∷ []
-unfolding seen after blocked running idle-blocked line if_then_else_ every allBelow anyBelow countBelow lowestBelow tabulate holdsTask regionFits position pushed enqueued placeWithout without removed arenaFits whole freshKernel isBest pick isDue isLimitDue woken visited walked clocked advanced Scheduler.sliced Scheduler.wants wantsSwitch Scheduler.tick Scheduler.start Semaphore.acquireWithin number value effect step
+unfolding seen after blocked running idle-blocked line if_then_else_ every allBelow anyBelow countBelow sumBelow lowestBelow tabulate holdsTask regionFits position pushed enqueued placeWithout without removed arenaFits whole freshKernel isBest pick isDue isLimitDue woken visited walked clocked advanced Scheduler.sliced Scheduler.wants wantsSwitch Scheduler.tick Scheduler.start Semaphore.acquireWithin number value effect step
 at-the-last-tick = refl

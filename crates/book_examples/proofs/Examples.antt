@@ -3,7 +3,7 @@ use mathlib.Core.Path.{_≡_, refl, subst}
 use mathlib.Core.List.{List, [], _∷_, _++_}
 use lib.ListN.{take, drop}
 use Rattle.base.specs.Choice.{if_then_else_, every}
-use Rattle.base.specs.Below.{allBelow, anyBelow, countBelow, lowestBelow, smallestBelow, tabulate}
+use Rattle.base.specs.Below.{allBelow, anyBelow, countBelow, sumBelow, lowestBelow, smallestBelow, tabulate}
 use Rattle.kernel.specs.declared.scheduler.Kernel.{Kernel}
 use Rattle.kernel.specs.Control.{holdsTask, unblocked, regionFits, regionsOverlap, painted, stackGuardOk, spInRange}
 use Rattle.kernel.specs.WaitQueue.{position, pushed, enqueued, placeWithout, without, popped}
@@ -13,15 +13,15 @@ use Rattle.kernel.specs.Scheduler.{isBest, pick, lowestEmpty, overlapsPresent, 
 use Rattle.kernel.specs.Scheduler
 use Rattle.kernel.specs.Mutex
 use Rattle.kernel.specs.Calls.{Call, number, value, effect, valueNumber, step, init, initNumber}
-use Rattle.book_guarantees.specs.Lists.{Returned, outcomeOf, outcome, sum}
+use Rattle.book_guarantees.specs.Lists.{Returned, outcomeOf, outcome, isStart}
 use Rattle.book_guarantees.proofs.TurnGuarantee.{turn-guarantee}
 use Rattle.book_examples.specs.Tests.{entry, between, second}
-use Rattle.book_examples.specs.Examples.{run, arena, id, unpainted, mixed-calls, mixed, Mixed, two-tasks, idle-round, late-switch, smaller-number, first-sleeps, not-neighbours, other-sleeps, by-rank, smaller-rank, first-changes, other-changes, other-priority, Met, Fives, IdleRound, TaskRound, Needed, Changing}
+use Rattle.book_examples.specs.Examples.{run, arena, id, unpainted, mixed-calls, mixed, Mixed, two-tasks, idle-round, late-switch, smaller-number, first-sleeps, not-neighbours, other-sleeps, by-rank, smaller-rank, first-changes, other-changes, other-priority, slot-reused, Met, Fives, IdleRound, TaskRound, Needed, Changing, Reused}
 use Rattle.book_examples.proofs.Checked.{stretch-is, unchanging-is, peer-is, peer-unchanging-is}
 
 -- what the claims compute with: to unfold this is to unfold all that its line names
 computed : Unit {0}
-unfolding arena unpainted painted mixed mixed-calls two-tasks idle-round late-switch smaller-number first-sleeps not-neighbours other-sleeps by-rank smaller-rank first-changes other-changes other-priority outcome outcomeOf step number value effect valueNumber init initNumber freshKernel whole arenaFits if_then_else_ every allBelow anyBelow countBelow lowestBelow smallestBelow tabulate holdsTask link chain leadsTo rank position pushed enqueued atId placeWithout without popped Mutex.lock Mutex.unlock unblocked regionFits regionsOverlap stackGuardOk spInRange slotOf isBest pick lowestEmpty overlapsPresent isDue isLimitDue woken visited walked clocked advanced sliced wants wantsSwitch contextSaved reloaded Scheduler.add Scheduler.start Scheduler.tick Scheduler.switch sum
+unfolding arena unpainted painted mixed mixed-calls two-tasks idle-round late-switch smaller-number first-sleeps not-neighbours other-sleeps by-rank smaller-rank first-changes other-changes other-priority slot-reused outcome outcomeOf isStart step number value effect valueNumber init initNumber freshKernel whole arenaFits if_then_else_ every allBelow anyBelow countBelow lowestBelow smallestBelow tabulate holdsTask link chain leadsTo rank position pushed enqueued atId placeWithout without popped Mutex.lock Mutex.unlock unblocked regionFits regionsOverlap stackGuardOk spInRange slotOf isBest pick lowestEmpty overlapsPresent isDue isLimitDue woken visited walked clocked advanced sliced wants wantsSwitch contextSaved reloaded Scheduler.add Scheduler.start Scheduler.tick Scheduler.switch Scheduler.exit sumBelow
 computed = tt
 
 pub met : Met
@@ -47,6 +47,10 @@ needed = record { late = refl; late-rise = refl; smaller = refl; smaller-waits =
 pub changing : Changing
 unfolding computed
 changing = record { covered = (refl, refl, refl); inherited = refl; smaller = refl; smaller-waits = (refl, refl); changed = refl; changed-two = (refl, refl); unchanged = refl; unchanged-none = (refl, refl) }
+
+pub reused : Reused
+unfolding computed
+reused = record { stretch = refl; falls = (refl, refl); counted = (refl, refl); adds-up = (refl, refl, refl) }
 
 run-returned : (k : Kernel) (cs : List Call) → Returned k (run k cs)
 run-returned k [] = tt

@@ -11,11 +11,13 @@ use Rattle.kernel.specs.declared.control.TaskId.{TaskId}
 use Rattle.kernel.specs.declared.control.StackRegion.{StackRegion}
 use Rattle.kernel.specs.declared.scheduler.Kernel.{Kernel}
 use Rattle.kernel.specs.Control.{paint, painted}
+use Rattle.kernel.specs.Kernel.{charge}
 use Rattle.kernel.specs.Rank.{rank}
-use Rattle.kernel.specs.Calls.{Call, add, start, tick, switch, sleep, wake, lock, unlock, step, init, initNumber}
-use Rattle.base.specs.Below.{tabulate}
-use Rattle.book_guarantees.specs.Lists.{Entry, after, Returned, sum}
+use Rattle.kernel.specs.Calls.{Call, add, start, tick, switch, sleep, wake, exit, reap, lock, unlock, step, init, initNumber}
+use Rattle.base.specs.Below.{sumBelow, tabulate}
+use Rattle.book_guarantees.specs.Lists.{Entry, after, Returned, ticksAfterStart}
 use Rattle.book_guarantees.specs.Turns.{Stretch, Peer, Unchanging, Fair}
+use Rattle.book_guarantees.specs.Charges.{occupiedCharges}
 use Rattle.book_examples.specs.Tests.{entry, between, second, conditions, peer, turnsOf, ticksOf, riseOf}
 
 -- ---- lists of calls, from a fresh kernel with hz 1000 and 2,112 words
@@ -135,6 +137,10 @@ other-changes = played (inherits ++ (leave 3 ∷ leave 1 ∷ wake (id 3) ∷ lea
 unfoldable pub other-priority : List Entry
 other-priority = played (task 1 9 ∷ task 2 10 ∷ start ∷ leave 1 ∷ [])
 
+-- Task 2 exits between two turns of task 1, entries 7 and 15, is reaped, and another task gets its slot: the slot's charge is 1 after the first turn and 0 before the second.
+unfoldable pub slot-reused : List Entry
+slot-reused = played (task 1 128 ∷ task 2 128 ∷ task 3 128 ∷ start ∷ leave 1 ∷ tick ∷ leave 2 ∷ leave 3 ∷ leave 1 ∷ tick ∷ tick ∷ exit ∷ leave 2 ∷ reap (id 2) ∷ task 2 128 ∷ leave 3 ∷ [])
+
 -- a list that meets every premise
 pub record Met : Type 0 where
   -- refused are a switch whose guard is not painted, an add of a region that is taken, a lock of no object, a second start
@@ -153,12 +159,12 @@ pub record Fives : Type 0 where
 -- 75 is met, by idle
 pub record IdleRound : Type 0 where
   pub idle-stretch : every (conditions idle-round 105 91 0 (id 0)) ≡ true
-  pub seventy-five : sum (λ j. if eqb j 0 then 0 else riseOf idle-round 105 91 j) 16 ≡ 75
+  pub seventy-five : sumBelow (λ j. if eqb j 0 then 0 else ticksOf idle-round 105 91 j) 16 ≡ 75
 
 -- 71 is met, by a task that is not idle
 pub record TaskRound : Type 0 where
   pub task-stretch : every (conditions idle-round 15 91 1 (id 1)) ≡ true
-  pub seventy-one : sum (λ j. if eqb j 1 then 0 else riseOf idle-round 15 91 j) 16 ≡ 71
+  pub seventy-one : sumBelow (λ j. if eqb j 1 then 0 else ticksOf idle-round 15 91 j) 16 ≡ 71
 
 pub record Needed : Type 0 where
   -- all but "followed": a rise of 6
@@ -189,3 +195,10 @@ pub record Changing : Type 0 where
   pub changed-two : (every (peer first-changes 14 6 1 2 (id 2)) ≡ true) × (turnsOf first-changes 14 6 2 ≡ 2)
   pub unchanged : every (conditions other-changes 15 2 2 (id 2)) ≡ true
   pub unchanged-none : (peer other-changes 15 2 2 1 (id 1) ≡ true ∷ true ∷ true ∷ false ∷ []) × (turnsOf other-changes 15 2 1 ≡ 0)
+
+-- a stretch in which a slot's charge falls: its rise tells nothing of the two ticks made while task 2 was current; with the retired sum no tick is lost
+pub record Reused : Type 0 where
+  pub stretch : every (conditions slot-reused 7 7 1 (id 1)) ≡ true
+  pub falls : (charge (after (entry slot-reused 7)) 2 ≡ 1) × (charge (after (entry slot-reused 14)) 2 ≡ 0)
+  pub counted : (riseOf slot-reused 7 7 2 ≡ 0) × (ticksOf slot-reused 7 7 2 ≡ 2)
+  pub adds-up : (occupiedCharges (after (entry slot-reused 15)) ≡ 0) × (after (entry slot-reused 15) .«retired_charge» ≡ 3) × (ticksAfterStart slot-reused ≡ 3)

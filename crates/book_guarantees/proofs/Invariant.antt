@@ -1,5 +1,5 @@
 -- What holds of every kernel from fresh, and what an accepted call does in the terms of `Fairness`: a tick is `Tick`, a switch is `Turn`, by rank,
--- any other call of a started kernel is `Other`; and a charge rises by the ticks made while its slot was current.
+-- any other call of a started kernel is `Other`; and a tick of a started kernel adds one to current's charge, and so to the sum of all.
 use mathlib.Core.Path.{_≡_, refl, sym, ap, _∙_}
 use mathlib.Core.Bool.{Bool, true, false, not, _&&_, _||_}
 use mathlib.Core.List.{List}
@@ -8,19 +8,19 @@ use Prim.Native.Nat.{ℕ, zero, suc, _+_, _-_, max, _≤_, _<_}
 use native.Mathlib.Decide.{ℕ-discrete}
 use native.Mathlib.Omega.{arith}
 use lib.Dec.{eqb}
-use lib.ListN.{getD, set, length, replicate, length-set}
+use lib.ListN.{getD, set, length, replicate}
 use lib.Seq.{getD-set-same, getD-set-other}
 use borrow.Author.Tests.{eqb-true, eqb-false}
 use Rattle.base.specs.Choice.{if_then_else_}
-use Rattle.base.specs.Below.{anyBelow}
+use Rattle.base.specs.Below.{anyBelow, sumBelow}
 use Rattle.base.proofs.Choices.{and-right, either, taken, left}
-use Rattle.base.proofs.Loops.{set-each}
+use Rattle.base.proofs.Loops.{set-each, sum-but}
 use Rattle.kernel.specs.declared.control.TaskControl.{TaskControl}
 use Rattle.kernel.specs.declared.control.TaskState.the-variants.{Ready}
 use Rattle.kernel.specs.declared.scheduler.Kernel.{Kernel}
 use Rattle.kernel.specs.Update.{withRemaining}
 use Rattle.kernel.specs.Control.{stateNumber, holdsTask, hasLimit, blankSlot}
-use Rattle.kernel.specs.Kernel.{slot, charge, at, current, currentTask, freshKernel}
+use Rattle.kernel.specs.Kernel.{slot, charge, chargeSum, at, current, currentTask, freshKernel}
 use Rattle.kernel.specs.Rank.{rank}
 use Rattle.kernel.specs.Scheduler.{isReady, nextTask, isDue, isLimitDue, woken, spent, clocked, advanced, currentRuns, sliced, wants, wantsSwitch, contextSaved, saveContext}
 use Rattle.kernel.specs.Scheduler
@@ -30,9 +30,10 @@ use Rattle.kernel.proofs.Rank.{rank-saved, rank-dispatched}
 use Rattle.kernel.proofs.Unlimited.{woken-ahead}
 use Rattle.kernel.proofs.Walk.{walked-beside, walked-before}
 use Rattle.kernel.proofs.Changes.{same, state, passed, charged, Changes, carry, SlotChange, by}
-use Rattle.kernel.proofs.Owned.{Sound, empty-table, fresh-sound, change-sound}
+use Rattle.kernel.proofs.Owned.{all-default}
 use Rattle.book_guarantees.proofs.BestFirst.{clash, Rather, pick-is}
 use Rattle.book_guarantees.proofs.Fairness.{runs, Live, allowance, budget, some-tick, Tick, Other, Turn}
+use Rattle.book_guarantees.proofs.Account.{Account, fresh-account, change-account}
 use Rattle.book_guarantees.proofs.Kept.{SliceFits, IsOther, TaskKept, task-kept, each-kept, slices-kept, kept, NoLonger, no-longer}
 
 -- ---- the invariant
@@ -42,21 +43,20 @@ abbrev OnlyCurrent : Kernel → Type 0
 OnlyCurrent k = (j : ℕ) → runs (slot k j) ≡ true → (j ≡ current k) × (k .started ≡ true)
 
 pub record Invariant (k : Kernel) : Type 0 where
-  pub sound : Sound k
-  pub charges : length (k .charges) ≡ 16
+  pub account : Account k
   pub slices : (j : ℕ) → SliceFits (slot k j)
   pub running : OnlyCurrent k
 
-pub invariant-kept : {g : Kind} {k k′ : Kernel} → Changes g k k′ → Invariant k → length (k′ .charges) ≡ length (k .charges) → OnlyCurrent k′ → Invariant k′
-invariant-kept {g} cs i l r = record { sound = carry Sound (change-sound g) cs (i .sound); charges = l ∙ i .charges; slices = λ j. slices-kept cs j (i .slices j); running = r }
+pub invariant-kept : {g : Kind} {k k′ : Kernel} → Changes g k k′ → Invariant k → OnlyCurrent k′ → Invariant k′
+invariant-kept {g} cs i r = record { account = carry Account (change-account g) cs (i .account); slices = λ j. slices-kept cs j (i .slices j); running = r }
 
 pub fresh-invariant : (hz words : ℕ) → initNumber hz words ≡ 0 → Invariant (freshKernel hz words)
 unfolding freshKernel
-fresh-invariant hz words e = record { sound = fresh-sound hz words e; charges = refl; slices = λ j. slots j .0; running = λ j r. clash r (slots j .1) }
+fresh-invariant hz words e = record { account = fresh-account hz words e; slices = λ j. slots j .0; running = λ j r. clash r (slots j .1) }
   where
     slots : (j : ℕ) → SliceFits (slot (freshKernel hz words) j) × (runs (slot (freshKernel hz words) j) ≡ false)
     slots zero = (omega arith, refl)
-    slots (suc j) = rw (empty-table 15 j) (omega arith, refl)
+    slots (suc j) = rw (all-default blankSlot 15 j) (omega arith, refl)
 
 -- ---- how many ticks a task may have
 
@@ -76,7 +76,7 @@ allowance-falls t u q = either (λ n. n ≤ allowance t) (runs u) (λ e. let r =
 
 module _ {g : Kind} {k k′ : Kernel} (x : IsOther g) (cs : Changes g k k′) where
   pub other-invariant : Invariant k → Invariant k′
-  other-invariant i = invariant-kept cs i (ap length (kept x cs .charges)) (λ j e. let r = i .running j (no-longer x cs j e .0) in (r .0 ∙ sym (kept x cs .stay), kept x cs .on ∙ r .1))
+  other-invariant i = invariant-kept cs i (λ j e. let r = i .running j (no-longer x cs j e .0) in (r .0 ∙ sym (kept x cs .stay), kept x cs .on ∙ r .1))
 
   pub other-step : Other k k′
   other-step = record { stay = kept x cs .stay; slice = rw (kept x cs .stay) (allowance-falls _ _ (no-longer x cs (current k))) }
@@ -112,14 +112,20 @@ LimitAhead now t = t .occupied ≡ true → hasLimit t ≡ true → now < t .«l
 spent-ahead : {now : ℕ} (t : TaskControl) → LimitAhead now t → LimitAhead now (spent t)
 spent-ahead {now} t h = either (LimitAhead now) (eqb (t .«remaining_slice» - 1) 0) (λ _. h) (λ _. h)
 
-module _ (k : Kernel) where
-  advanced-still : (current (advanced k) ≡ current k) × (advanced k .started ≡ k .started) × (advanced k .charges ≡ charged k)
-  unfolding advanced clocked
-  advanced-still = let f = walked-beside (k .«tick_count» + 1) 16 k .form in (ap (λ (x : Kernel). current x) f, ap (λ (x : Kernel). x .started) f, ap (λ (x : Kernel). charged x) f)
+-- two choices by one test
+both : {A B : Type 0} (P : A → B → Type 0) (b : Bool) {x y : A} {u v : B} → P x u → P y v → P (if b then x else y) (if b then u else v)
+unfolding if_then_else_
+both P true p q = p
+both P false p q = q
 
-  still : (current (Scheduler.tick k) ≡ current k) × (Scheduler.tick k .started ≡ k .started) × (Scheduler.tick k .charges ≡ charged k)
+module _ (k : Kernel) where
+  advanced-still : (current (advanced k) ≡ current k) × (advanced k .started ≡ k .started) × (advanced k .charges ≡ charged k) × (advanced k .«retired_charge» ≡ k .«retired_charge»)
+  unfolding advanced clocked
+  advanced-still = let f = walked-beside (k .«tick_count» + 1) 16 k .form in (ap (λ (x : Kernel). current x) f, ap (λ (x : Kernel). x .started) f, ap (λ (x : Kernel). charged x) f, ap (λ (x : Kernel). x .«retired_charge») f)
+
+  still : (current (Scheduler.tick k) ≡ current k) × (Scheduler.tick k .started ≡ k .started) × (Scheduler.tick k .charges ≡ charged k) × (Scheduler.tick k .«retired_charge» ≡ k .«retired_charge»)
   unfolding Scheduler.tick sliced
-  still = either (λ (x : Kernel). (current x ≡ current k) × (x .started ≡ k .started) × (x .charges ≡ charged k)) (advanced k .started && currentRuns (advanced k)) (λ _. advanced-still) (λ _. advanced-still)
+  still = either (λ (x : Kernel). (current x ≡ current k) × (x .started ≡ k .started) × (x .charges ≡ charged k) × (x .«retired_charge» ≡ k .«retired_charge»)) (advanced k .started && currentRuns (advanced k)) (λ _. advanced-still) (λ _. advanced-still)
 
   -- tick_count rises by one, and every limit lies ahead then
   pub tick-clock : Scheduler.tick k .«tick_count» ≡ k .«tick_count» + 1
@@ -145,8 +151,20 @@ module _ (k : Kernel) where
   tick-started = still .1
 
   pub tick-invariant : Changes ticking k (Scheduler.tick k) → Invariant k → Invariant (Scheduler.tick k)
-  tick-invariant cs i = invariant-kept cs i (ap length (still .2) ∙ either (λ (l : List ℕ). length l ≡ length (k .charges)) (k .started) (λ _. length-set (k .charges) _ _) (λ _. refl))
+  tick-invariant cs i = invariant-kept cs i
       (λ j e. let r = i .running j (each-kept (λ t u. runs u ≡ true → runs t ≡ true) (λ _ e. e) (λ _ _ _ p q e. p (q e)) slot-runs cs j e) in (r .0 ∙ sym (still .0), still .1 ∙ r .1))
+
+  -- the sum of all charges and the retired one
+  pub tick-sum : Invariant k → chargeSum (Scheduler.tick k) ≡ chargeSum k + (if k .started then 1 else 0)
+  tick-sum i =
+      let c = current k in
+      let n = charge k c + 1 in
+      let inside = i .account .sound .is .current-slot in
+      let raised = sum-but (charge k) (λ j. getD (set (k .charges) c n) j 0) 16 c inside (λ j e. getD-set-other (k .charges) c j n 0 e) in
+      let here = getD-set-same (k .charges) c n 0 (omega (arith, i .account .slots, inside)) in
+      let all : sumBelow (λ j. getD (charged k) j 0) 16 ≡ sumBelow (charge k) 16 + (if k .started then 1 else 0) =
+      both (λ l m. sumBelow (λ j. getD l j 0) 16 ≡ sumBelow (charge k) 16 + m) (k .started) (omega (arith, raised, here)) (omega arith) in
+      omega (arith, ap (λ (l : List ℕ). sumBelow (λ j. getD l j 0) 16) (still .2), still .3, all)
 
   module _ (i : Invariant k) (on : k .started ≡ true) where
     pub tick-account : (j : ℕ) → charge (Scheduler.tick k) j ≡ charge k j + (if eqb (current k) j then 1 else 0)
@@ -155,7 +173,7 @@ module _ (k : Kernel) where
         let n = charge k c + 1 in
         ap (λ (l : List ℕ). getD l j 0) (still .2 ∙ sym (taken _ _ _ _ on refl))
         ∙ either (λ m. getD (set (k .charges) c n) j 0 ≡ charge k j + m) (eqb c j)
-        (λ q. rw (← eqb-true c j q) (getD-set-same (k .charges) c n 0 (omega (arith, i .charges, i .sound .is .current-slot))))
+        (λ q. rw (← eqb-true c j q) (getD-set-same (k .charges) c n 0 (omega (arith, i .account .slots, i .account .sound .is .current-slot))))
         (λ q. rw (getD-set-other (k .charges) c j n 0 (λ e. eqb-false c j q (sym e))) (omega arith))
 
     -- the current task once the slots are walked
@@ -164,7 +182,7 @@ module _ (k : Kernel) where
 
     advanced-kept : TaskKept plain (currentTask k) t
     unfolding advanced clocked
-    advanced-kept = rw (ap (λ (x : Kernel). current x) (walked-beside (k .«tick_count» + 1) 16 k .form), walked-before (k .«tick_count» + 1) 16 k (current k) (i .sound .is .current-slot)) (woken-kept (k .«tick_count» + 1) (currentTask k))
+    advanced-kept = rw (ap (λ (x : Kernel). current x) (walked-beside (k .«tick_count» + 1) 16 k .form), walked-before (k .«tick_count» + 1) 16 k (current k) (i .account .sound .is .current-slot)) (woken-kept (k .«tick_count» + 1) (currentTask k))
 
     -- it runs on, and its slice does not end
     unwanted : wantsSwitch k ≡ false → (runs t ≡ true) × (eqb (t .«remaining_slice» - 1) 0 ≡ false)
@@ -179,7 +197,7 @@ module _ (k : Kernel) where
     unfolding Scheduler.tick sliced
     tick-current r =
         ap currentTask (sym (taken (advanced k .started && runs t) (at (current (advanced k)) spent (advanced k)) (advanced k) _ (ap (λ (b : Bool). b && runs t) (advanced-still .1 ∙ on) ∙ r) refl))
-        ∙ getD-set-same (advanced k .tasks) (current (advanced k)) (spent t) blankSlot (omega (arith, advanced-size, advanced-still .0, i .sound .owned .slots, i .sound .is .current-slot))
+        ∙ getD-set-same (advanced k .tasks) (current (advanced k)) (spent t) blankSlot (omega (arith, advanced-size, advanced-still .0, i .account .sound .owned .slots, i .account .sound .is .current-slot))
 
     pub tick-tick : Tick k (wantsSwitch k) (Scheduler.tick k)
     tick-tick = record { stay = still .0; fall = λ e. let f = unwanted e in rw (tick-current (f .0)) (spent-falls (currentTask k) t advanced-kept (f .0) (f .1)) }
@@ -212,7 +230,7 @@ module _ (sp : ℕ) (k : Kernel) (i : Invariant k) where
   at-pick j = go (ℕ-discrete j (current k)) (runs (slot k j)) refl
     where
       go : Dec (j ≡ current k) → (b : Bool) → runs (slot k j) ≡ b → Yielded (slot k j) (slot (saveContext sp k) j)
-      go (yes e) b r = rw e (rw (getD-set-same (k .tasks) (current k) _ blankSlot (omega (arith, i .sound .owned .slots, i .sound .is .current-slot))) (saved-yielded sp (currentTask k)))
+      go (yes e) b r = rw e (rw (getD-set-same (k .tasks) (current k) _ blankSlot (omega (arith, i .account .sound .owned .slots, i .account .sound .is .current-slot))) (saved-yielded sp (currentTask k)))
       go (no n) true r = absurd (n (i .running j r .0))
       go (no n) false r = rw (getD-set-other (k .tasks) (current k) j _ blankSlot n) (same-yielded (slot k j) r)
 
@@ -236,7 +254,7 @@ module _ (sp : ℕ) (k : Kernel) (i : Invariant k) where
       s = nextTask (saveContext sp k)
 
       rather : (j : ℕ) → j < 16 → Live (slot k j) → Rather (isReady (saveContext sp k)) (rank (saveContext sp k)) (current k) s j
-      rather j h v = pick-is (isReady (saveContext sp k)) (rank (saveContext sp k)) (current k) (i .sound .is .current-slot) j h (at-pick j .ready v)
+      rather j h v = pick-is (isReady (saveContext sp k)) (rank (saveContext sp k)) (current k) (i .account .sound .is .current-slot) j h (at-pick j .ready v)
 
 pub start-only : (k : Kernel) → Invariant k → k .started ≡ false → (j : ℕ) → runs (slot (Scheduler.start k) j) ≡ true → j ≡ nextTask k
 unfolding Scheduler.start

@@ -3,8 +3,10 @@ pub mod Ring
 pub mod Fairness
 pub mod BestFirst
 pub mod Kept
+pub mod Account
 pub mod Invariant
 pub mod TurnGuarantee
+pub mod Charges
 pub mod Wakings
 pub mod Limits
 pub mod Milliseconds

@@ -38,9 +38,9 @@ use Rattle.kernel.proofs.Queue.{enqueued-keeps, popped-keeps, removed-keeps}
 use Rattle.kernel.proofs.Accepted.{accepted-at}
 use Rattle.kernel.proofs.Changes.{TaskChange, same, state, asleep, ended, waiter, answered, passed, less, full, saved, QueueChange, still, joined, left, out, Unlimited, absent, present, queueIn, owner-each, Change, task, begins, clock, permits, flag, handoff, owner, added, reaped, begun, turned}
 use Rattle.kernel.proofs.Unlimited.{inside}
-use Rattle.kernel.proofs.Owned.{Owned, Sound, empty-table, fresh-sound, change-sound}
+use Rattle.kernel.proofs.Owned.{Owned, Sound, all-default, fresh-sound, change-sound}
 use Rattle.kernel.proofs.Reached.{reached-by}
-use Rattle.book_guarantees.specs.Lists.{Entry, after, Each, Returned, end, Outcome, turn, tick as ticked, other, outcomeOf, outcome, acceptedTick, acceptedTicks}
+use Rattle.book_guarantees.specs.Lists.{Entry, after, Each, Returned, end, Outcome, turn, tick as ticked, other, outcomeOf, outcome, isStart, acceptedTick, acceptedTicks}
 use Rattle.book_guarantees.specs.Limits.{lastTick, Limited, Waiting, AtTick, WithLimit, acquiring, waiting, Keeps, EndsWithin, LimitGuarantee}
 use Rattle.book_guarantees.proofs.Fairness.{runs}
 use Rattle.book_guarantees.proofs.Invariant.{tick-slot}
@@ -190,7 +190,7 @@ fresh-kept hz words = record { tick = omega arith; semaphore-ids = four-semaphor
 
     no-limit : (i : ℕ) → hasLimit (slot (freshKernel hz words) i) ≡ false
     no-limit zero = refl
-    no-limit (suc i) = ap hasLimit (empty-table 15 i)
+    no-limit (suc i) = ap hasLimit (all-default blankSlot 15 i)
 
 queued : {k : Kernel} → Reached k → Queued k
 queued = reached-by Queued (λ hz words e. record { sound = fresh-sound hz words e; limits = fresh-kept hz words }) (λ g k k′ c q. record { sound = change-sound g k k′ c (q .sound); limits = change-kept g k k′ c (q .sound) (q .limits) })
@@ -225,7 +225,7 @@ unfolding woken isLimitDue isDue holdsTask if_then_else_
 waits-on now t o l b d = rw (o, l, lt-leb (t .«limit_tick») now d, b)
 
 -- an entry that a list has after k
-fact : {k : Kernel} (e : Entry) → Reached k → e .answer ≡ step k (e .call) → Fact k (outcome e) (after e)
+fact : {k : Kernel} (e : Entry) → Reached k → e .answer ≡ step k (e .call) → Fact k (isStart e) (outcome e) (after e)
 fact {k} e r s = entry-fact k e (reached-invariant r) s
 
 ticked-ahead : (k : Kernel) → Reached k → step k tick .number ≡ 0 → (i : ℕ) → Limited (step k tick .kernel) i → step k tick .kernel .«tick_count» < slot (step k tick .kernel) i .«limit_tick»

@@ -1,23 +1,25 @@
 -- The third sentence, proved: each call is a step of `Fairness` that keeps the invariant (`Fact`), so a list from fresh is a chain of such steps, and what
--- `Fairness` says of ticks is said of charges. Where no mutex has a queue, ranks are priorities, which a present task keeps.
+-- `Fairness` says of ticks is said of the charges of tasks that stay. Where no mutex has a queue, ranks are priorities, which a present task keeps.
 use mathlib.Core.Path.{_≡_, refl, sym, ap, subst, _∙_}
-use mathlib.Core.Bool.{Bool, true, false}
+use mathlib.Core.Bool.{Bool, true, false, _&&_, _||_}
 use mathlib.Core.List.{List, [], _∷_, _++_}
 use mathlib.Core.Logic.{_≢_}
 use Prim.Native.Nat.{ℕ, zero, suc, _+_, _*_, _≤_, _<_}
 use native.Mathlib.Decide.{decLt, ℕ-discrete}
 use native.Mathlib.Omega.{arith}
 use lib.Dec.{eqb}
-use lib.ListN.{getD, List·getD-eq-default}
+use lib.ListN.{List·getD-eq-default}
 use borrow.Author.Tests.{eqb-true, eqb-false}
 use Rattle.base.specs.Choice.{if_then_else_}
+use Rattle.base.specs.Below.{sumBelow}
 use Rattle.base.proofs.Choices.{either}
 use Rattle.kernel.specs.declared.control.TaskControl.{TaskControl}
 use Rattle.kernel.specs.declared.control.TaskId.{TaskId}
 use Rattle.kernel.specs.declared.scheduler.Kernel.{Kernel}
 use Rattle.kernel.specs.declared.scheduler.Answer.{Answer}
+use Rattle.kernel.specs.declared.scheduler.Value.the-variants.{Nothing}
 use Rattle.kernel.specs.Control.{blankSlot}
-use Rattle.kernel.specs.Kernel.{slot, charge, current}
+use Rattle.kernel.specs.Kernel.{slot, charge, chargeSum, current}
 use Rattle.kernel.specs.Rank.{priorityOf, rank}
 use Rattle.kernel.specs.Scheduler.{wantsSwitch}
 use Rattle.kernel.specs.Scheduler
@@ -29,12 +31,13 @@ use Rattle.kernel.proofs.Rank.{rank-own}
 use Rattle.kernel.proofs.Changes.{Changes, none}
 use Rattle.kernel.proofs.MadeOf.{made-of}
 use Rattle.kernel.proofs.Reached.{init-kernel, reached}
-use Rattle.book_guarantees.specs.Lists.{Entry, after, Each, EachNext, Returned, end, Outcome, turn, tick, other, outcomeOf, outcome, AcceptedSwitch, turns, tickOf, ticksWhile, acceptedTick, sum}
-use Rattle.book_guarantees.specs.Turns.{Holds, Stays, Stretch, Peer, Unchanging, Bounded, TurnGuarantee, TurnGuaranteeByPriority}
+use Rattle.book_guarantees.specs.Lists.{Entry, after, Each, EachNext, Returned, end, Outcome, turn, tick, other, outcomeOf, outcome, AcceptedSwitch, turns, tickOf, ticksWhile, acceptedTick, starts, isStart}
+use Rattle.book_guarantees.specs.Turns.{Holds, Stays, Stretch, Peer, Unchanging, Rises, TurnGuarantee, TurnGuaranteeByPriority}
 use Rattle.book_guarantees.proofs.BestFirst.{clash}
 use Rattle.book_guarantees.proofs.Fairness.{IsTurn, answered, Step, Steps, At, each-at, fair}
-use Rattle.book_guarantees.proofs.Kept.{IsOther, priority-kept, kept}
-use Rattle.book_guarantees.proofs.Invariant.{Invariant, invariant-kept, fresh-invariant, five-ticks, other-invariant, other-step, LimitAhead, tick-clock, tick-ahead, tick-started, tick-invariant, tick-account, tick-tick, switch-only, switch-turn, start-only}
+use Rattle.book_guarantees.proofs.Kept.{IsOther, priority-kept, charge-kept, kept}
+use Rattle.book_guarantees.proofs.Account.{sum-kept}
+use Rattle.book_guarantees.proofs.Invariant.{Invariant, invariant-kept, fresh-invariant, five-ticks, other-invariant, other-step, LimitAhead, tick-clock, tick-ahead, tick-started, tick-invariant, tick-sum, tick-account, tick-tick, switch-only, switch-turn, start-only}
 
 no-turn : {A : Type 0} {s : ℕ} → other ≡ turn s → A
 no-turn q = let y : _≡_ {A = ℕ} 0 1 = cc in let o : ⊥ = omega (arith, y) in absurd o
@@ -48,8 +51,13 @@ no-tick q = let y : _≡_ {A = ℕ} 0 1 = cc in let o : ⊥ = omega (arith, y) i
 same-turn : {s t : ℕ} → s < 16 → turn s ≡ turn t → (s ≡ t) × (t < 16)
 same-turn {s} {t} h e = let q : s ≡ t = cc in (q, omega (arith, q))
 
-same-charge : {l l′ : List ℕ} → l′ ≡ l → (j : ℕ) → getD l′ j 0 ≡ getD l j 0 + 0
-same-charge e j = let x = ap (λ (l : List ℕ). getD l j 0) e in omega (arith, x)
+or-false : (b : Bool) → (b || false) ≡ b
+or-false true = refl
+or-false false = refl
+
+or-true : (b : Bool) → (b || true) ≡ true
+or-true true = refl
+or-true false = refl
 
 yes-or-no : (b : Bool) → eqb (if b then 1 else 0) 1 ≡ b
 unfolding if_then_else_
@@ -58,12 +66,14 @@ yes-or-no false = refl
 
 -- ---- one call
 
--- what an outcome v that leads from k to k′ is
-pub record Fact (k : Kernel) (v : Outcome) (k′ : Kernel) : Type 0 where
+-- what an outcome v that leads from k to k′ is; b says whether it is an accepted start
+pub record Fact (k : Kernel) (b : Bool) (v : Outcome) (k′ : Kernel) : Type 0 where
   pub invariant : Invariant k′
-  on : k .started ≡ true → k′ .started ≡ true
+  pub on : k′ .started ≡ (k .started || b)
   step : k .started ≡ true → Step rank k v k′
-  account : k .started ≡ true → (j : ℕ) → charge k′ j ≡ charge k j + tickOf j k v
+  -- the charge of a task that is there before and after, and the sum of all with the retired one
+  account : k .started ≡ true → (j : ℕ) → slot k j .occupied ≡ true → slot k′ j .occupied ≡ true → charge k′ j ≡ charge k j + tickOf j k v
+  pub sum : chargeSum k′ ≡ chargeSum k + (if k .started then acceptedTick v else 0)
   begun : (s : ℕ) → v ≡ turn s → (current k′ ≡ s) × (s < 16) × (k′ .started ≡ true)
   priority : (j : ℕ) → slot k j .occupied ≡ true → slot k′ j .occupied ≡ true → priorityOf k′ j ≡ priorityOf k j
   -- tick_count rises by the accepted ticks, and with such a tick every limit lies ahead
@@ -73,28 +83,34 @@ pub record Fact (k : Kernel) (v : Outcome) (k′ : Kernel) : Type 0 where
 same-priority : {g : Kind} {k k′ : Kernel} → Changes g k k′ → (j : ℕ) → slot k j .occupied ≡ true → slot k′ j .occupied ≡ true → priorityOf k′ j ≡ priorityOf k j
 same-priority cs j o p = ap (λ x. x .0) (priority-kept cs j o p)
 
-other-fact : {g : Kind} {k k′ : Kernel} → IsOther g → Invariant k → Changes g k k′ → Fact k other k′
-other-fact x i cs = record {
+-- nothing is added
+no-more : (b : Bool) → _≡_ {A = ℕ} (if b then 0 else 0) 0
+no-more b = either (λ n. n ≡ 0) b (λ _. refl) (λ _. refl)
+
+other-fact : {g : Kind} {k k′ : Kernel} → IsOther g → Invariant k → Changes g k k′ → Fact k false other k′
+other-fact {k = k} x i cs = record {
   invariant = other-invariant x cs i;
-  on = λ o. kept x cs .on ∙ o;
+  on = kept x cs .on ∙ sym (or-false (k .started));
   step = λ _. other-step x cs;
-  account = λ _ j. same-charge (kept x cs .charges) j;
+  account = λ _ j o p. omega (arith, charge-kept x cs j o p);
+  sum = omega (arith, sum-kept x cs (i .account), no-more (k .started));
   begun = λ s e. no-turn e;
   priority = same-priority cs;
   clock = omega (arith, kept x cs .clock);
   ahead = λ w e. no-tick e;
 }
 
-accepted-fact : (k : Kernel) (c : Call) → Invariant k → number k c ≡ 0 → Changes (kind c) k (effect k c) → Fact k (outcomeOf (kind c) (value k c)) (effect k c)
+accepted-fact : (k : Kernel) (c : Call) → Invariant k → number k c ≡ 0 → Changes (kind c) k (effect k c) → Fact k (starts (kind c)) (outcomeOf (kind c) (value k c)) (effect k c)
 unfolding outcomeOf value effect valueNumber Scheduler.start Scheduler.switch
 accepted-fact k start i m cs =
     let off = start-off k m in
-    let i′ : Invariant (Scheduler.start k) = invariant-kept cs i refl (λ j e. (start-only k i off j e, refl)) in
+    let i′ : Invariant (Scheduler.start k) = invariant-kept cs i (λ j e. (start-only k i off j e, refl)) in
     record {
       invariant = i′;
-      on = λ _. refl;
+      on = sym (or-true (k .started));
       step = λ o. clash o off;
-      account = λ _ j. omega arith;
+      account = λ _ j _ _. omega arith;
+      sum = omega (arith, no-more (k .started));
       begun = λ s e. let q = same-turn (pick-lt _ _ _) e in (q .0, q .1, refl);
       priority = same-priority cs;
       clock = omega arith;
@@ -102,9 +118,10 @@ accepted-fact k start i m cs =
     }
 accepted-fact k Calls.tick i m cs = record {
   invariant = tick-invariant k cs i;
-  on = λ o. tick-started k ∙ o;
+  on = tick-started k ∙ sym (or-false (k .started));
   step = λ o. rw (yes-or-no (wantsSwitch k)) (tick-tick k i o);
-  account = λ o j. tick-account k i o j;
+  account = λ o j _ _. tick-account k i o j;
+  sum = tick-sum k i;
   begun = λ s e. tick-no-turn e;
   priority = same-priority cs;
   clock = tick-clock k;
@@ -112,12 +129,13 @@ accepted-fact k Calls.tick i m cs = record {
 }
 accepted-fact k (switch arena sp) i m cs =
     let on = switch-on k arena sp m in
-    let i′ : Invariant (Scheduler.switch sp k) = invariant-kept cs i refl (λ j e. (switch-only sp k i j e, on)) in
+    let i′ : Invariant (Scheduler.switch sp k) = invariant-kept cs i (λ j e. (switch-only sp k i j e, on)) in
     record {
       invariant = i′;
-      on = λ _. on;
+      on = sym (or-false (k .started));
       step = λ _. switch-turn sp k i i′;
-      account = λ _ j. omega arith;
+      account = λ _ j _ _. omega arith;
+      sum = omega (arith, no-more (k .started));
       begun = λ s e. let q = same-turn (pick-lt _ _ _) e in (q .0, q .1, on);
       priority = same-priority cs;
       clock = omega arith;
@@ -152,49 +170,49 @@ pub reached-invariant : {k : Kernel} → Reached k → Invariant k
 reached-invariant = reached Invariant fresh-invariant (λ k c e i. accepted-fact k c i e (made-of k c e) .invariant)
 
 -- an answer is what its call does on the kernel before it, refused or not
-answer-fact : (k : Kernel) (c : Call) → Invariant k → Fact k (outcome (record { call = c; answer = step k c })) (step k c .kernel)
-unfolding step outcome
+answer-fact : (k : Kernel) (c : Call) → Invariant k → Fact k (isStart (record { call = c; answer = step k c })) (outcome (record { call = c; answer = step k c })) (step k c .kernel)
+unfolding step outcome isStart if_then_else_
 answer-fact k c i =
-    either (λ (a : Answer). Fact k (if eqb (a .number) 0 then outcomeOf (kind c) (a .value) else other) (a .kernel)) (eqb (number k c) 0)
-    (λ q. either (λ (v : Outcome). Fact k v (effect k c)) (eqb 0 0) (λ _. let m = eqb-true (number k c) 0 q in accepted-fact k c i m (made-of k c m)) (λ r. clash refl r))
-    (λ q. either (λ (v : Outcome). Fact k v k) (eqb (number k c) 0) (λ r. clash r q) (λ _. other-fact {g = plain} tt i none))
+    either (λ (a : Answer). Fact k (eqb (a .number) 0 && starts (kind c)) (if eqb (a .number) 0 then outcomeOf (kind c) (a .value) else other) (a .kernel)) (eqb (number k c) 0)
+    (λ q. let m = eqb-true (number k c) 0 q in accepted-fact k c i m (made-of k c m))
+    (λ q. subst (λ (b : Bool). Fact k (b && starts (kind c)) (if b then outcomeOf (kind c) Nothing else other) k) (sym q) (other-fact {g = plain} tt i none))
 
-pub entry-fact : (k : Kernel) (e : Entry) → Invariant k → e .answer ≡ step k (e .call) → Fact k (outcome e) (after e)
-entry-fact k e i r = subst (λ (a : Answer). Fact k (outcome (record { call = e .call; answer = a })) (a .kernel)) (sym r) (answer-fact k (e .call) i)
+pub entry-fact : (k : Kernel) (e : Entry) → Invariant k → e .answer ≡ step k (e .call) → Fact k (isStart e) (outcome e) (after e)
+entry-fact k e i r = subst (λ (a : Answer). Fact k (isStart (record { call = e .call; answer = a })) (outcome (record { call = e .call; answer = a })) (a .kernel)) (sym r) (answer-fact k (e .call) i)
 
 -- ---- a list of calls
 
 abbrev Chain : List Entry → Type 0
-Chain es = EachNext (λ e f. Fact (after e) (outcome f) (after f)) es
+Chain es = EachNext (λ e f. Fact (after e) (isStart f) (outcome f) (after f)) es
 
 chain : (e : Entry) (es : List Entry) → Invariant (after e) → Returned (after e) es → Chain (e ∷ es)
 chain e [] i r = tt
 chain e (f ∷ fs) i r = let x = entry-fact (after e) f i (r .0) in (x, chain f fs (x .invariant) (r .1))
 
 -- from an entry of a list on
-chain-from : (k : Kernel) (es : List Entry) (one : Entry) (fs : List Entry) → Invariant k → Returned k (es ++ one ∷ fs) → (k₀ : Kernel) × Fact k₀ (outcome one) (after one) × Chain (one ∷ fs)
+chain-from : (k : Kernel) (es : List Entry) (one : Entry) (fs : List Entry) → Invariant k → Returned k (es ++ one ∷ fs) → (k₀ : Kernel) × Fact k₀ (isStart one) (outcome one) (after one) × Chain (one ∷ fs)
 chain-from k [] one fs i r = let x = entry-fact k one i (r .0) in (k, x, chain one fs (x .invariant) (r .1))
 chain-from k (e ∷ es) one fs i r = chain-from (after e) es one fs (entry-fact k e i (r .0) .invariant) (r .1)
 
--- the calls between and the second turn; a charge rises by the ticks made while its slot was current
+-- the calls between and the second turn; the charge of a task that stays rises by the ticks made while its slot was current
 record Between (e : Entry) (es : List Entry) (two : Entry) : Type 0 where
   steps : Steps rank (e ∷ es)
   second : Step rank (end (after e) es) (outcome two) (after two)
-  account : (j : ℕ) → charge (end (after e) es) j ≡ charge (after e) j + ticksWhile j (after e) es
+  account : (j : ℕ) (b : TaskId) → Stays j b e es → charge (end (after e) es) j ≡ charge (after e) j + ticksWhile j (after e) es
 
 between-of : (e : Entry) (es : List Entry) (two : Entry) (fs : List Entry) → after e .started ≡ true → Chain (e ∷ (es ++ two ∷ fs)) → Between e es two
-between-of e [] two fs o c = record { steps = tt; second = c .0 .step o; account = λ j. omega arith }
+between-of e [] two fs o c = record { steps = tt; second = c .0 .step o; account = λ j b s. omega arith }
 between-of e (f ∷ es) two fs o c =
-    let x = between-of f es two fs (c .0 .on o) (c .1) in
-    record { steps = (c .0 .step o, x .steps); second = x .second; account = λ j. omega (arith, x .account j, c .0 .account o j) }
+    let x = between-of f es two fs (c .0 .on ∙ rw o) (c .1) in
+    record { steps = (c .0 .step o, x .steps); second = x .second; account = λ j b s. omega (arith, x .account j b (s .1), c .0 .account o j (s .0 .present) (s .1 .0 .present)) }
 
 switch-is-turn : (e : Entry) → AcceptedSwitch e → IsTurn (outcome e)
 unfolding outcome outcomeOf if_then_else_
 switch-is-turn e s = rw (s .1, s .0) tt
 
 -- fifteen fives
-fives : (f : ℕ → ℕ) (i n : ℕ) → ((j : ℕ) → j < n → f j ≤ 5) → (i < n → sum (λ j. if eqb j i then 0 else f j) n + 5 ≤ 5 * n) × (sum (λ j. if eqb j i then 0 else f j) n ≤ 5 * n)
-unfolding sum
+fives : (f : ℕ → ℕ) (i n : ℕ) → ((j : ℕ) → j < n → f j ≤ 5) → (i < n → sumBelow (λ j. if eqb j i then 0 else f j) n + 5 ≤ 5 * n) × (sumBelow (λ j. if eqb j i then 0 else f j) n ≤ 5 * n)
+unfolding sumBelow
 fives f i zero h = omega arith
 fives f i (suc n) h = go (fives f i n (λ j l. h j (omega (arith, l)))) (ℕ-discrete n i) (h n (omega arith))
   where
@@ -207,12 +225,12 @@ fives f i (suc n) h = go (fives f i n (λ j l. h j (omega (arith, l)))) (ℕ-dis
     skipped : n ≡ i → g n ≡ 0
     skipped e = either (λ x. x ≡ 0) (eqb n i) (λ _. refl) (λ q. absurd (eqb-false n i q e))
 
-    go : (i < n → sum g n + 5 ≤ 5 * n) × (sum g n ≤ 5 * n) → Dec (n ≡ i) → f n ≤ 5 → (i < suc n → sum g n + g n + 5 ≤ 5 * suc n) × (sum g n + g n ≤ 5 * suc n)
+    go : (i < n → sumBelow g n + 5 ≤ 5 * n) × (sumBelow g n ≤ 5 * n) → Dec (n ≡ i) → f n ≤ 5 → (i < suc n → sumBelow g n + g n + 5 ≤ 5 * suc n) × (sumBelow g n + g n ≤ 5 * suc n)
     go r (yes e) l = (λ _. omega (arith, r .1, skipped e), omega (arith, r .1, small l))
     go r (no ne) l = (λ q. omega (arith, r .0 (omega (arith, q, ne)), small l), omega (arith, r .1, small l))
 
-bounded : {Peers : ℕ → TaskId → Type 0} {n : ℕ → ℕ} (i : ℕ) → i < 16 → ((j : ℕ) (b : TaskId) → Peers j b → j < 16) → ((j : ℕ) → j < 16 → n j ≤ 5) → Bounded Peers i n
-bounded {n = n} i hi inside five = record { peers = λ j b q. five j (inside j b q); own = five i hi; others = omega (arith, fives n i 16 five .0 hi) }
+rises : (j : ℕ) (one : Entry) (between : List Entry) → ticksWhile j (after one) between ≤ 5 → charge (end (after one) between) j ≡ charge (after one) j + ticksWhile j (after one) between → Rises j one between
+rises j one between five e = record { five = omega (arith, five, e); by-ticks = e }
 
 -- an occupied slot is one of the sixteen
 occupied-inside : {k : Kernel} → Invariant k → (j : ℕ) → slot k j .occupied ≡ true → j < 16
@@ -220,9 +238,9 @@ occupied-inside {k} i j o = go (decLt j 16)
   where
     go : Dec (j < 16) → j < 16
     go (yes h) = h
-    go (no n) = clash o (ap (λ (t : TaskControl). t .occupied) (List·getD-eq-default (k .tasks) blankSlot (omega (arith, i .sound .owned .slots, n))))
+    go (no n) = clash o (ap (λ (t : TaskControl). t .occupied) (List·getD-eq-default (k .tasks) blankSlot (omega (arith, i .account .sound .owned .slots, n))))
 
-init-invariant : (hz words : ℕ) → initNumber hz words ≡ 0 → Invariant (init hz words .kernel)
+pub init-invariant : (hz words : ℕ) → initNumber hz words ≡ 0 → Invariant (init hz words .kernel)
 init-invariant hz words e = subst Invariant (init-kernel hz words e) (fresh-invariant hz words e)
 
 -- ---- the sentence
@@ -230,15 +248,15 @@ init-invariant hz words e = subst Invariant (init-kernel hz words e) (fresh-inva
 pub turn-guarantee : TurnGuarantee
 turn-guarantee hz words accepted before between rest one two returned i a s u = record {
   one-turn = λ j b q. f .0 j (inside j b q) (q .0 .another) (each-at rank r j b (one ∷ between) (q .0 .stayed) (subst (λ (x : ℕ). Each (λ e. rank (after e) j ≡ x) (one ∷ between)) (q .0 .equal) (refl, q .1)));
-  ticks = bounded i (begun .1) inside (f .1);
-  charges = bounded i (begun .1) inside (λ j h. omega (arith, f .1 j h, y .account j));
-  no-fall = λ j. omega (arith, y .account j);
+  peers = λ j b q. rises j one between (f .1 j (inside j b q)) (y .account j b (q .0 .stayed));
+  own = rises i one between (f .1 i (begun .1)) (y .account i a (s .stays));
+  others = omega (arith, fives (λ j. ticksWhile j (after one) between) i 16 (f .1) .0 (begun .1));
 }
   where
     r : ℕ
     r = rank (after one) i
 
-    c : (k : Kernel) × Fact k (outcome one) (after one) × Chain (one ∷ (between ++ two ∷ rest))
+    c : (k : Kernel) × Fact k (isStart one) (outcome one) (after one) × Chain (one ∷ (between ++ two ∷ rest))
     c = chain-from (init hz words .kernel) before one (between ++ two ∷ rest) (init-invariant hz words accepted) returned
 
     begun : (current (after one) ≡ i) × (i < 16) × (after one .started ≡ true)
@@ -266,13 +284,10 @@ each-with : {P Q R : Entry → Type 0} → ((e : Entry) → P e → Q e → R e)
 each-with f [] p q = tt
 each-with f (e ∷ es) p q = (f e (p .0) (q .0), each-with f es (p .1) (q .1))
 
-fewer : {P Q : ℕ → TaskId → Type 0} {i : ℕ} {n : ℕ → ℕ} → ((j : ℕ) (b : TaskId) → P j b → Q j b) → Bounded Q i n → Bounded P i n
-fewer f h = record { peers = λ j b q. h .peers j b (f j b q); own = h .own; others = h .others }
-
 pub turn-guarantee-by-priority : TurnGuaranteeByPriority
 turn-guarantee-by-priority hz words accepted before between rest one two returned empty i a s =
     let f = turn-guarantee hz words accepted before between rest one two returned i a by-rank (same i a (s .stays)) in
-    record { one-turn = λ j b q. f .one-turn j b (peer j b q); ticks = fewer peer (f .ticks); charges = fewer peer (f .charges); no-fall = f .no-fall }
+    record { one-turn = λ j b q. f .one-turn j b (peer j b q); peers = λ j b q. f .peers j b (peer j b q); own = f .own; others = f .others }
   where
     own : (j : ℕ) → rank (after one) j ≡ priorityOf (after one) j
     own = rank-own (after one) (empty .0)

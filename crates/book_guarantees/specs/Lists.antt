@@ -1,8 +1,8 @@
 -- A list of kernel calls with what they returned: what holds of each, what each call was, and how many turns and ticks it has.
 use mathlib.Core.Path.{_≡_}
-use mathlib.Core.Bool.{Bool}
+use mathlib.Core.Bool.{Bool, true, false, _&&_}
 use mathlib.Core.List.{List, [], _∷_}
-use Prim.Native.Nat.{ℕ, zero, suc, _+_}
+use Prim.Native.Nat.{ℕ, _+_}
 use lib.Dec.{eqb}
 use Rattle.base.specs.Choice.{if_then_else_}
 use Rattle.kernel.specs.declared.scheduler.Kernel.{Kernel}
@@ -66,6 +66,19 @@ outcome e = if eqb (e .answer .number) 0 then outcomeOf (kind (e .call)) (e .ans
 abbrev pub AcceptedSwitch : Entry → Type 0
 AcceptedSwitch e = (kind (e .call) ≡ switching) × (e .answer .number ≡ 0)
 
+abbrev pub starts : Kind → Bool
+starts starting = true
+starts switching = false
+starts ticking = false
+starts adding = false
+starts reaping = false
+starts owning = false
+starts plain = false
+
+-- an accepted start
+unfoldable pub isStart : Entry → Bool
+isStart e = eqb (e .answer .number) 0 && starts (kind (e .call))
+
 -- ---- turns and ticks counted
 
 -- 1 for a turn of slot j, otherwise 0
@@ -101,7 +114,7 @@ abbrev pub acceptedTicks : List Entry → ℕ
 acceptedTicks [] = 0
 acceptedTicks (e ∷ es) = acceptedTick (outcome e) + acceptedTicks es
 
--- f of the numbers below n, added up
-unfoldable pub sum : (ℕ → ℕ) → ℕ → ℕ
-sum f zero = 0
-sum f (suc n) = sum f n + f n
+-- how many were accepted after the start, that is, after the first accepted start of the list: on a started kernel there is no other
+abbrev pub ticksAfterStart : List Entry → ℕ
+ticksAfterStart [] = 0
+ticksAfterStart (e ∷ es) = if isStart e then acceptedTicks es else ticksAfterStart es

@@ -1,18 +1,19 @@
--- The book's third sentence, clause by clause, in the request's words and 01's, by rank as 02 has it (W-205); and as the request has it, by priority number, where no mutex has a queue.
+-- The book's third sentence, clause by clause, in the request's words and 01's, by rank and of the task's own charge as 02 has it (W-205, W-206); and by priority number, as the request has it, where no mutex has a queue.
 use mathlib.Core.Path.{_≡_}
 use mathlib.Core.Bool.{true}
 use mathlib.Core.List.{List, [], _∷_, _++_}
 use mathlib.Core.Logic.{_⊎_, _≢_}
-use Prim.Native.Nat.{ℕ, _-_, _≤_}
+use Prim.Native.Nat.{ℕ, _+_, _-_, _≤_}
 use lib.Dec.{eqb}
 use Rattle.base.specs.Choice.{if_then_else_}
+use Rattle.base.specs.Below.{sumBelow}
 use Rattle.kernel.specs.declared.control.TaskId.{TaskId}
 use Rattle.kernel.specs.declared.control.TaskState.the-variants.{Ready, Running}
 use Rattle.kernel.specs.declared.scheduler.Kernel.{Kernel}
 use Rattle.kernel.specs.Kernel.{slot, charge}
 use Rattle.kernel.specs.Rank.{priorityOf, noQueues, rank}
 use Rattle.kernel.specs.Calls.{init, initNumber}
-use Rattle.book_guarantees.specs.Lists.{Entry, after, Each, EachNext, Returned, end, turn, tick, outcome, AcceptedSwitch, turns, ticksWhile, sum}
+use Rattle.book_guarantees.specs.Lists.{Entry, after, Each, EachNext, Returned, end, turn, tick, outcome, AcceptedSwitch, turns, ticksWhile}
 
 -- ---- the words of the sentence; `one` is the call that gives the first turn, `between` the calls after it and before the second
 
@@ -26,7 +27,7 @@ pub record Holds (j : ℕ) (a : TaskId) (k : Kernel) : Type 0 where
 abbrev pub Stays : ℕ → TaskId → Entry → List Entry → Type 0
 Stays j a one between = Each (λ e. Holds j a (after e)) (one ∷ between)
 
--- "a rise is what those calls add to a charge"; that they take nothing from it is part of `Fair`
+-- "a rise is what those calls add to a charge"; that they take nothing from it is part of `Rises`
 abbrev pub rise : ℕ → Entry → List Entry → ℕ
 rise j one between = charge (end (after one) between) j - charge (after one) j
 
@@ -53,20 +54,18 @@ module _ (number : Kernel → ℕ → ℕ) where
   abbrev pub Unchanging : ℕ → Entry → List Entry → Type 0
   Unchanging j one between = Each (λ e. number (after e) j ≡ number (after one) j) between
 
--- n j is what is counted of slot j: at most 5 of a peer's slot, at most 5 of the first task's, i, and at most 75 of all other slots together. `Peers j b` says
--- that task b of slot j is a peer.
-pub record Bounded (Peers : ℕ → TaskId → Type 0) (i : ℕ) (n : ℕ → ℕ) : Type 0 where
-  pub peers : (j : ℕ) (b : TaskId) → Peers j b → n j ≤ 5
-  pub own : n i ≤ 5
-  pub others : sum (λ j. if eqb j i then 0 else n j) 16 ≤ 75
+-- "The bound of 5 reads the task's own charge" (02, W-206): that of slot j, in which the task stays. It rises by just the accepted ticks made while the task was current, and these are at most 5.
+pub record Rises (j : ℕ) (one : Entry) (between : List Entry) : Type 0 where
+  pub five : rise j one between ≤ 5
+  pub by-ticks : charge (end (after one) between) j ≡ charge (after one) j + ticksWhile j (after one) between
 
--- "has exactly one turn between, and the charge of its slot rises by at most 5. In every such stretch the charge of the first task's slot also rises by at
--- most 5, and those of all other slots together by at most 75"; and the same of the accepted ticks made while a slot was current
+-- "has exactly one turn between", and its charge "rises by at most 5. In every such stretch the charge" of the first task "also rises by at most 5"; "and the
+-- bound of 75 counts accepted ticks while others were current" (02, W-206). `Peers j b` says that task b of slot j is a peer.
 pub record Fair (Peers : ℕ → TaskId → Type 0) (i : ℕ) (one : Entry) (between : List Entry) : Type 0 where
   pub one-turn : (j : ℕ) (b : TaskId) → Peers j b → turns j between ≡ 1
-  pub ticks : Bounded Peers i (λ j. ticksWhile j (after one) between)
-  pub charges : Bounded Peers i (λ j. rise j one between)
-  pub no-fall : (j : ℕ) → charge (after one) j ≤ charge (end (after one) between) j
+  pub peers : (j : ℕ) (b : TaskId) → Peers j b → Rises j one between
+  pub own : Rises i one between
+  pub others : sumBelow (λ j. if eqb j i then 0 else ticksWhile j (after one) between) 16 ≤ 75
 
 -- ---- the sentence
 
@@ -82,7 +81,7 @@ abbrev pub TurnGuarantee : Type 0
 TurnGuarantee = InEveryList (λ one between two. (i : ℕ) (a : TaskId) → Stretch rank i a one between two → Unchanging rank i one between
     → Fair (λ j b. Peer rank i one between j b × Unchanging rank j one between) i one between)
 
--- Where no mutex has a queue after the first turn and after each call between, the sentence is the request's: by priority number, which a task keeps.
+-- Where no mutex has a queue after the first turn and after each call between, the sentence is by priority number, as the request has it: a task keeps its number.
 abbrev pub TurnGuaranteeByPriority : Type 0
 TurnGuaranteeByPriority = InEveryList (λ one between two. Each (λ e. noQueues (after e) ≡ true) (one ∷ between)
     → (i : ℕ) (a : TaskId) → Stretch priorityOf i a one between two → Fair (Peer priorityOf i one between) i one between)

@@ -94,6 +94,7 @@ fn added(mut k: Kernel, priority: Priority, region: StackRegion) -> Kernel
     let id = TaskId(k.next_id as u32);
     let next = TaskControl::new(id, priority, region);
     k.tasks[i] = next;
+    k.charges[i] = 0;
     k.next_id = k.next_id + 1;
     k.task_count = k.task_count + 1;
     k

@@ -120,7 +120,7 @@ fn list_number(k: Kernel, arena: &[u32], room: usize) -> u8
 {
     let whole = leaf_whole::internal::is_whole(k, false);
     let fits = arena.len() == k.arena_words as usize;
-    let few = room < k.task_count;
+    let few = room < k.task_count as usize;
     answer::refuse_if(
         !whole,
         1,
@@ -147,7 +147,7 @@ fn answered(k: Kernel, number: u8) -> Answer
     if number != 0 {
         return answer::refused(number, k);
     }
-    answer::accepted(Value::Count(k.task_count), k)
+    answer::accepted(Value::Count(k.task_count as usize), k)
 }
 
 fn row_at(rows: Rows, i: usize) -> TaskInfo

@@ -12,24 +12,26 @@ ghost use lib.Dec.{eqb, leb};
 ghost use Rattle.kernel.specs.declared.control.TaskState.the-variants.{Terminated};
 ghost use Rattle.kernel.specs.declared.scheduler.Value.the-variants.{Region};
 ghost use Rattle.kernel.specs.Control.{holdsTask};
-ghost use Rattle.kernel.specs.Kernel.{slot, current, whole};
+ghost use Rattle.kernel.specs.Kernel.{slot, current, chargeSum, whole};
 ghost use Rattle.kernel.specs.Scheduler.{emptied, reapableSlot};
 ghost use Rattle.kernel.specs.Calls.{reap, reap-one, number, accepted, step, firstOf, checks};
 
 pub mod internal;
 
 fn emptied(mut k: Kernel, i: usize) -> Kernel
-    requires { ⌜ (i < 16) × (1 ≤ k .«task_count») ⌝ }
+    requires { ⌜ (i < 16) × (1 ≤ k .«task_count») × (chargeSum k ≤ k .«tick_count») ⌝ }
     ensures { λ r. ⌜ r ≡ emptied i k ⌝ }
 {
     let next = TaskControl::empty();
     k.tasks[i] = next;
+    k.retired_charge = k.retired_charge + k.charges[i];
+    k.charges[i] = 0;
     k.task_count = k.task_count - 1;
     k
 }
 
 fn reaped(k: Kernel, i: usize) -> Answer
-    requires { ⌜ (i < 16) × (1 ≤ k .«task_count») ⌝ }
+    requires { ⌜ (i < 16) × (1 ≤ k .«task_count») × (chargeSum k ≤ k .«tick_count») ⌝ }
     ensures { λ r. ⌜ r ≡ accepted (Region (slot k i .stack)) (emptied i k) ⌝ }
 {
     let t = k.tasks[i];

@@ -12,7 +12,7 @@ use borrow.Author.Tests.{ltb-true}
 use Rattle.base.specs.Choice.{if_then_else_}
 use Rattle.base.specs.Below.{anyBelow}
 use Rattle.base.proofs.Choices.{taken, left, and-left, and-right}
-use Rattle.base.proofs.Loops.{Upto, any-start, upto-any, any-done}
+use Rattle.base.proofs.Loops.{Upto, any-start, upto-any, any-done, sum-at}
 use Rattle.kernel.specs.declared.control.LimitObject.{LimitObject}
 use Rattle.kernel.specs.declared.control.LimitObject.the-variants.{NoLimit, AtSemaphore, AtEvent}
 use Rattle.kernel.specs.declared.control.TaskId.{TaskId}
@@ -81,7 +81,7 @@ pub walking-current : {now : ℕ} {k₀ k : Kernel} {woke : Bool} {i : ℕ} → 
 walking-current {k₀ = k₀} w h = omega (arith, ap current (walking-beside w .form), is-whole k₀ h .current-slot)
 
 pub walking-charge : {now : ℕ} {k₀ k : Kernel} {woke : Bool} {i : ℕ} → Walking now k₀ k woke i → whole k₀ ≡ true → charge k (current k) ≤ k₀ .«tick_count»
-walking-charge {k₀ = k₀} w h = omega (arith, ap (λ (x : Kernel). charge x (current x)) (walking-beside w .form), is-whole k₀ h .charges (current k₀) (is-whole k₀ h .current-slot))
+walking-charge {k₀ = k₀} w h = let is = is-whole k₀ h in omega (arith, ap (λ (x : Kernel). charge x (current x)) (walking-beside w .form), is .charges, sum-at (charge k₀) 16 (current k₀) (is .current-slot))
 
 -- the object of a limit that is due
 pub walking-fits : {now : ℕ} {k₀ k : Kernel} {woke : Bool} {i : ℕ} → Walking now k₀ k woke i → whole k₀ ≡ true → i < 16 → isLimitDue now (slot k i) ≡ true → objectFits (slot k i .«limit_object») ≡ true

@@ -13,9 +13,9 @@ use borrow.Author.Tests.{ltb-true, ltb-false, eqb-true, eq-eqb, ne-eqb}
 use Rattle.base.specs.Choice.{if_then_else_}
 use Rattle.base.specs.Below.{countBelow}
 use Rattle.base.proofs.Choices.{either, and-left, and-right}
-use Rattle.base.proofs.Loops.{count-same, count-le, count-one, count-some, lowest-is, lowest-at, set-each, tabulate-at, tabulate-length}
+use Rattle.base.proofs.Loops.{count-same, count-le, count-one, count-some, sum-none, lowest-is, lowest-at, set-each, tabulate-at, tabulate-length}
 use Rattle.kernel.specs.Types.{OptionTaskId, None, Some, TaskId, Running, TaskControl, WaitQueue, Mutex, Semaphore, Event, Kernel}
-use Rattle.kernel.specs.Update.{withOwned, withTasks, withTaskCount, withNextId}
+use Rattle.kernel.specs.Update.{withOwned, withTasks, withCharges, withTaskCount, withNextId}
 use Rattle.kernel.specs.Control.{names, inState, blankSlot, newTask, entered}
 use Rattle.kernel.specs.WaitQueue.{zeroId, place, position, contains, isFull, pushed, enqueued, placeWithout, without, isEmpty, head, popped, removed}
 use Rattle.kernel.specs.Kernel.{slot, at, current, currentId, holdsId, slotOf, isPresent, atId, mutex, withMutex, newMutex, newSemaphore, newEvent, freshKernel}
@@ -292,8 +292,8 @@ later : (n : ℕ) (o : OptionTaskId) → Known n o → Known (n + 1) o
 later n None h = tt
 later n (Some a) h = omega arith
 
-add-owned : (k : Kernel) (x : ℕ) (t : TaskControl) → Owned k → slot k x .occupied ≡ false → x < 16 → t .id .0 ≡ k .«next_id» → t .«owned_mutex_count» ≡ 0 → t .occupied ≡ true → (n : ℕ) → Owned (withTaskCount n (withNextId (k .«next_id» + 1) (withTasks (set (k .tasks) x t) k)))
-add-owned k x t w e h id owned on n = record {
+add-owned : (k : Kernel) (x : ℕ) (t : TaskControl) → Owned k → slot k x .occupied ≡ false → x < 16 → t .id .0 ≡ k .«next_id» → t .«owned_mutex_count» ≡ 0 → t .occupied ≡ true → (n : ℕ) (charges : List ℕ) → Owned (withTaskCount n (withNextId (k .«next_id» + 1) (withCharges charges (withTasks (set (k .tasks) x t) k))))
+add-owned k x t w e h id owned on n charges = record {
   slots = length-set (k .tasks) x t ∙ w .slots;
   mutexes = w .mutexes;
   some = omega arith;
@@ -348,7 +348,7 @@ change-owned g k k′ (handoff m h q l c) w =
 change-owned g k k′ (owner m b from to h q l d c) w =
     mutex-stays m (record { locked = b; owner = to; «handoff_to» = h; waiters = q }) (moved from to k) w (moved-size from to k) (moved-same from to k) (hand-known w d) (queue-known _ (w .some) (w .ids (current k) (w .running)) c (w .queued m)) (hand-free d)
     (λ i o. omega (arith, w .counts i o, hand-counts k w m l i o d, with-owner k w m l i o (record { locked = b; owner = to; «handoff_to» = h; waiters = q })))
-change-owned g k k′ (added p r free region) w = add-owned k (lowestEmpty k) (newTask (nextId k) p r) w (first-empty k free) free refl refl refl _
+change-owned g k k′ (added p r free region) w = add-owned k (lowestEmpty k) (newTask (nextId k) p r) w (first-empty k free) free refl refl refl _ _
 change-owned g k k′ (reaped x h idle running on) w =
     stays w (length-set (k .tasks) x blankSlot) refl refl (rw (getD-set-other (k .tasks) x (current k) blankSlot blankSlot running) (w .running))
     (set-each (λ j u. u .occupied ≡ true → Same (slot k j) u) blankSlot (k .tasks) x blankSlot (λ o. absurd (false≢true o)) (λ j _. unmoved k j))
@@ -357,25 +357,21 @@ change-owned g k k′ (turned x h o) w = run-stays k k′ reloaded reload-same o
 
 -- ---- from fresh
 
-pub empty-table : (n j : ℕ) → getD (replicate n blankSlot) j blankSlot ≡ blankSlot
-empty-table zero j = refl
-empty-table (suc n) zero = refl
-empty-table (suc n) (suc j) = empty-table n j
+-- a list of what is read past its end
+pub all-default : {A : Type 0} (d : A) (n j : ℕ) → getD (replicate n d) j d ≡ d
+all-default d zero j = refl
+all-default d (suc n) zero = refl
+all-default d (suc n) (suc j) = all-default d n j
 
 each-new : (P : Mutex → Type 0) → P noMutex → P newMutex → (n m : ℕ) → P (getD (replicate n newMutex) m noMutex)
 each-new P a b zero m = a
 each-new P a b (suc n) zero = b
 each-new P a b (suc n) (suc m) = each-new P a b n m
 
-each-zero : (n j : ℕ) → getD (replicate n zeroId) j zeroId .0 < 1
-each-zero zero j = omega arith
-each-zero (suc n) zero = omega arith
-each-zero (suc n) (suc j) = each-zero n j
-
 idle-only : (hz words i : ℕ) → Occupied (freshKernel hz words) i → i ≡ 0
 unfolding freshKernel
 idle-only hz words zero o = refl
-idle-only hz words (suc i) o = absurd (false≢true (sym (ap (λ (t : TaskControl). t .occupied) (empty-table 15 i)) ∙ o))
+idle-only hz words (suc i) o = absurd (false≢true (sym (ap (λ (t : TaskControl). t .occupied) (all-default blankSlot 15 i)) ∙ o))
 
 fresh-owned : (hz words : ℕ) → Owned (freshKernel hz words)
 unfolding freshKernel
@@ -387,7 +383,7 @@ fresh-owned hz words = record {
   ids = λ i o. rw (idle-only hz words i o) (omega arith);
   apart = λ i j o p e. idle-only hz words i o ∙ sym (idle-only hz words j p);
   owners = each-new (λ x. Known 1 (x .owner)) tt tt 4;
-  queued = each-new (λ x. (j : ℕ) → place (x .waiters) j .0 < 1) (λ j. omega arith) (each-zero 8) 4;
+  queued = each-new (λ x. (j : ℕ) → place (x .waiters) j .0 < 1) (λ j. omega arith) (λ j. rw (all-default zeroId 8 j) (omega arith)) 4;
   free = each-new (λ x. x .locked ≡ false → x .owner ≡ None) (λ _. refl) (λ _. refl) 4;
   counts = λ i o. rw (idle-only hz words i o) (sym (none-counted _ 4 (λ m. each-new (λ x. names (x .owner) zeroId ≡ false) refl refl 4 m)));
 }
@@ -419,7 +415,7 @@ fresh-whole hz words e = record {
   mutex-queue = λ o h. each-new (λ x. x .waiters .len ≤ 8) (omega arith) (omega arith) 4 o;
   semaphore-queue = λ o h. few (λ (x : Semaphore). x .waiters .len ≤ 8) _ newSemaphore (omega arith) (omega arith) 4 o;
   event-queue = λ o h. few (λ (x : Event). x .waiters .len ≤ 8) _ newEvent (omega arith) (omega arith) 4 o;
-  charges = λ i h. few (λ (n : ℕ). n ≤ 0) 0 0 (omega arith) (omega arith) 16 i;
+  charges = omega (arith, sum-none (λ i. getD (replicate 16 0) i 0) 16 (λ i _. all-default 0 16 i));
   count = refl;
   tasks = omega arith;
 }

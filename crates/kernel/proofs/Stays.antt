@@ -7,14 +7,14 @@ use lib.Dec.{lit≤}
 use lib.ListN.{length, getD, set}
 use lib.Seq.{getD-set-same, getD-set-other}
 use borrow.Author.Tests.{leb-false}
-use Rattle.base.specs.Below.{countBelow}
+use Rattle.base.specs.Below.{countBelow, sumBelow}
 use Rattle.base.proofs.Choices.{and-left, either}
-use Rattle.base.proofs.Loops.{count-same, count-le, count-one, set-each, set-default}
+use Rattle.base.proofs.Loops.{count-same, count-le, count-one, set-each, set-default, sum-but, sum-clear}
 use Rattle.kernel.specs.Types.{TaskId, OptionTaskId, Running, Blocked, LimitObject, TaskControl, WaitQueue, Kernel}
-use Rattle.kernel.specs.Update.{withLimit, withTasks, withTaskCount, withNextId}
+use Rattle.kernel.specs.Update.{withLimit, withTasks, withCharges, withRetiredCharge, withTaskCount, withNextId}
 use Rattle.kernel.specs.Control.{inState, holdsTask, objectFits, entered, blankSlot, newTask}
 use Rattle.kernel.specs.WaitQueue.{contains, isFull, pushed, enqueued, without, isEmpty, popped, removed}
-use Rattle.kernel.specs.Kernel.{slot, charge, current, currentTask, isOccupied, mutex, semaphore, event}
+use Rattle.kernel.specs.Kernel.{slot, charge, chargeSum, current, currentTask, isOccupied, mutex, semaphore, event}
 use Rattle.kernel.specs.Scheduler.{lowestEmpty, nextTask, nextId, contextSaved, reloaded}
 use Rattle.kernel.specs.Scheduler
 use Rattle.kernel.specs.Calls.{Kind, adding, reaping, starting, switching, ticking, owning, plain}
@@ -65,7 +65,7 @@ queue-fits (left {r = r} p c) h = let g = queue-fits c h in either (λ (x : Wait
 stays : {k k′ : Kernel} → Whole k → k′ .«arena_words» ≡ k .«arena_words» → k′ .hz ≡ k .hz → k′ .«task_count» ≡ k .«task_count» → ((j : ℕ) → SameTask (slot k j) (slot k′ j))
     → current k′ < 16 → slot k (current k′) .occupied ≡ true
     → ((o : ℕ) → o < 4 → mutex k′ o .waiters .len ≤ 8) → ((o : ℕ) → o < 4 → semaphore k′ o .waiters .len ≤ 8) → ((o : ℕ) → o < 4 → event k′ o .waiters .len ≤ 8)
-    → ((i : ℕ) → i < 16 → charge k′ i ≤ k′ .«tick_count») → Whole k′
+    → chargeSum k′ ≤ k′ .«tick_count» → Whole k′
 stays {k} {k′} w arena hz count s slot-lt running m p v charges = record {
   arena = rw arena (w .arena);
   clock = rw hz (w .clock);
@@ -89,19 +89,23 @@ unmoved k j = task-same {g = plain} same
 one-stays : (k : Kernel) (i : ℕ) (u : TaskControl) → SameTask (slot k i) u → (j : ℕ) → SameTask (slot k j) (getD (set (k .tasks) i u) j blankSlot)
 one-stays k i u s = set-each (λ j t. SameTask (slot k j) t) blankSlot (k .tasks) i u s (unmoved k)
 
--- a charge goes up by one at most, as tick_count does
-charges-stay : (k : Kernel) → Whole k → (i : ℕ) → i < 16 → getD (charged k) i 0 ≤ k .«tick_count» + 1
-charges-stay k w i h =
-    either (λ l. getD l i 0 ≤ k .«tick_count» + 1) (k .started)
-    (λ _. set-each (λ j n. j < 16 → n ≤ k .«tick_count» + 1) 0 (k .charges) (current k) (charge k (current k) + 1) (λ g. omega (arith, w .charges (current k) g)) (λ j g. omega (arith, w .charges j g)) i h)
-    (λ _. omega (arith, w .charges i h))
+-- one charge goes up by one at most, as tick_count does
+charges-stay : (k : Kernel) → Whole k → sumBelow (λ i. getD (charged k) i 0) 16 + k .«retired_charge» ≤ k .«tick_count» + 1
+charges-stay k w =
+    let c = current k in
+    let n = charge k c + 1 in
+    let up : (j : ℕ) → getD (set (k .charges) c n) j 0 ≤ charge k j + 1 = set-each (λ j m. m ≤ charge k j + 1) 0 (k .charges) c n (omega arith) (λ j. omega arith) in
+    either (λ l. sumBelow (λ i. getD l i 0) 16 + k .«retired_charge» ≤ k .«tick_count» + 1) (k .started)
+    (λ _. omega (arith, w .charges, up c, sum-but (charge k) (λ i. getD (set (k .charges) c n) i 0) 16 c (w .current-slot) (λ i e. getD-set-other (k .charges) c i n 0 e)))
+    (λ _. omega (arith, w .charges))
 
 -- ---- add and reap
 
--- one slot set, not idle's and not current
-slot-stays : {k : Kernel} (n next x : ℕ) (t : TaskControl) → Whole k → (0 ≡ x → ⊥) → (current k ≡ x → ⊥) → (t .occupied ≡ true → RegionFits (k .«arena_words») (t .stack)) → (t .occupied ≡ true → t .«owned_mutex_count» ≤ 4) → LimitFits t
-    → n ≡ countBelow (λ i. getD (set (k .tasks) x t) i blankSlot .occupied) 16 → Whole (withTaskCount n (withNextId next (withTasks (set (k .tasks) x t) k)))
-slot-stays {k} n next x t w idle running region owned limit count = record {
+-- one slot set, not idle's and not current, and its charge 0
+slot-stays : {k : Kernel} (n next sum x : ℕ) (t : TaskControl) → Whole k → (0 ≡ x → ⊥) → (current k ≡ x → ⊥) → (t .occupied ≡ true → RegionFits (k .«arena_words») (t .stack)) → (t .occupied ≡ true → t .«owned_mutex_count» ≤ 4) → LimitFits t
+    → n ≡ countBelow (λ i. getD (set (k .tasks) x t) i blankSlot .occupied) 16 → sumBelow (λ i. getD (set (k .charges) x 0) i 0) 16 + sum ≤ k .«tick_count»
+    → Whole (withTaskCount n (withNextId next (withTasks (set (k .tasks) x t) (withRetiredCharge sum (withCharges (set (k .charges) x 0) k)))))
+slot-stays {k} n next sum x t w idle running region owned limit count charges = record {
   arena = w .arena;
   clock = w .clock;
   current-slot = w .current-slot;
@@ -113,7 +117,7 @@ slot-stays {k} n next x t w idle running region owned limit count = record {
   mutex-queue = w .mutex-queue;
   semaphore-queue = w .semaphore-queue;
   event-queue = w .event-queue;
-  charges = w .charges;
+  charges = charges;
   count = count;
   tasks = rw count (count-le _ 16);
 }
@@ -157,9 +161,9 @@ change-stays g k k′ (added p r free region) b w =
     let t = newTask (nextId k) p r in
     let empty = first-empty k free in
     let more = count-one (isOccupied k) (λ i. getD (set (k .tasks) x t) i blankSlot .occupied) 16 x free empty (rw (getD-set-same (k .tasks) x t blankSlot (omega (arith, free)))) (λ i n. rw (getD-set-other (k .tasks) x i t blankSlot n)) in
-    slot-stays _ _ x t w (apart k 0 x (w .idle) empty) (apart k (current k) x (w .running) empty) (λ _. region) (λ _. lit≤ tt) (λ l. absurd (false≢true l)) (omega (arith, w .count, more))
+    slot-stays _ _ (k .«retired_charge») x t w (apart k 0 x (w .idle) empty) (apart k (current k) x (w .running) empty) (λ _. region) (λ _. lit≤ tt) (λ l. absurd (false≢true l)) (omega (arith, w .count, more)) (omega (arith, w .charges, sum-clear (k .charges) 16 x free))
 change-stays g k k′ (reaped x h idle running on) b w =
     let less = count-one (λ i. getD (set (k .tasks) x blankSlot) i blankSlot .occupied) (isOccupied k) 16 x h (rw (set-default blankSlot (k .tasks) x)) (and-left _ _ on) (λ i n. rw (getD-set-other (k .tasks) x i blankSlot blankSlot n)) in
-    slot-stays _ (k .«next_id») x blankSlot w idle running (λ o. absurd (false≢true o)) (λ _. lit≤ tt) (λ l. absurd (false≢true l)) (omega (arith, w .count, less))
+    slot-stays _ (k .«next_id») _ x blankSlot w idle running (λ o. absurd (false≢true o)) (λ _. lit≤ tt) (λ l. absurd (false≢true l)) (omega (arith, w .count, less)) (omega (arith, w .charges, sum-clear (k .charges) 16 x h))
 change-stays g k k′ (begun x h o) b w = stays w refl refl refl (one-stays k (nextTask k) _ (run-same (task-same {g = plain} same))) h o (w .mutex-queue) (w .semaphore-queue) (w .event-queue) (w .charges)
 change-stays g k k′ (turned x h o) b w = stays w refl refl refl (one-stays k (nextTask k) _ (run-same (reload-same (slot k (nextTask k))))) h o (w .mutex-queue) (w .semaphore-queue) (w .event-queue) (w .charges)

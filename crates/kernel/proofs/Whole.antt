@@ -10,7 +10,7 @@ use Rattle.base.proofs.Choices.{and-left, and-right, implied, implies, every-at
 use Rattle.base.proofs.Loops.{all-at, all-each, count-le}
 use Rattle.kernel.specs.Types.{StackRegion, Blocked, TaskControl, Kernel}
 use Rattle.kernel.specs.Control.{inState, hasLimit, objectFits, regionEnd, regionFits}
-use Rattle.kernel.specs.Kernel.{slot, current, currentTask, charge, mutex, semaphore, event, arenaFits, isOccupied, regionWhole, ownedWhole, queuesWhole, chargeWhole, limitWhole, whole}
+use Rattle.kernel.specs.Kernel.{slot, current, currentTask, chargeSum, mutex, semaphore, event, arenaFits, isOccupied, regionWhole, ownedWhole, queuesWhole, limitWhole, whole}
 
 pub record RegionFits (words : ℕ) (r : StackRegion) : Type 0 where
   pub aligned : r .start % 4 ≡ 0
@@ -59,7 +59,7 @@ pub record Whole (k : Kernel) : Type 0 where
   pub mutex-queue : (o : ℕ) → o < 4 → mutex k o .waiters .len ≤ 8
   pub semaphore-queue : (o : ℕ) → o < 4 → semaphore k o .waiters .len ≤ 8
   pub event-queue : (o : ℕ) → o < 4 → event k o .waiters .len ≤ 8
-  pub charges : (i : ℕ) → i < 16 → charge k i ≤ k .«tick_count»
+  pub charges : chargeSum k ≤ k .«tick_count»
   pub limits : (i : ℕ) → i < 16 → slot k i .occupied ≡ true → LimitFits (slot k i)
   pub count : k .«task_count» ≡ countBelow (isOccupied k) 16
   pub tasks : k .«task_count» ≤ 16
@@ -79,7 +79,7 @@ is-whole k e =
       mutex-queue = λ o h. leb-true _ _ (and-left (leb (mutex k o .waiters .len) 8) (leb (semaphore k o .waiters .len) 8) (and-left _ (leb (event k o .waiters .len) 8) (queues o (every-at _ 6 e) h)));
       semaphore-queue = λ o h. leb-true _ _ (and-right (leb (mutex k o .waiters .len) 8) (leb (semaphore k o .waiters .len) 8) (and-left _ (leb (event k o .waiters .len) 8) (queues o (every-at _ 6 e) h)));
       event-queue = λ o h. leb-true _ _ (and-right (leb (mutex k o .waiters .len) 8 && leb (semaphore k o .waiters .len) 8) (leb (event k o .waiters .len) 8) (queues o (every-at _ 6 e) h));
-      charges = λ i h. leb-true _ _ (all-at (chargeWhole k) 16 i (every-at _ 9 e) h);
+      charges = leb-true _ _ (every-at _ 9 e);
       limits = λ i h o l.
           let fits = implied (slot k i .occupied && hasLimit (slot k i)) _ (rw (o, l)) (all-at (limitWhole k) 16 i (every-at _ 10 e) h) in
           (and-left _ _ fits, and-right (inState Blocked (slot k i)) _ fits);
@@ -100,6 +100,6 @@ whole-is k w =
       all-each (queuesWhole k) 4 (λ o h. rw (le-leb _ _ (w .mutex-queue o h), le-leb _ _ (w .semaphore-queue o h), le-leb _ _ (w .event-queue o h))),
       eq-eqb _ _ (w .count),
       all-each (ownedWhole k) 16 (λ i h. implies _ _ (λ o. le-leb _ _ (w .owned i h o))),
-      all-each (chargeWhole k) 16 (λ i h. le-leb _ _ (w .charges i h)),
+      le-leb _ _ (w .charges),
       all-each (limitWhole k) 16 (λ i h. implies (slot k i .occupied && hasLimit (slot k i)) _ (λ o. let f = w .limits i h (and-left _ _ o) (and-right (slot k i .occupied) _ o) in rw (f .0, f .1))),
     )

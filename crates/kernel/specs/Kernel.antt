@@ -1,11 +1,11 @@
 -- What a kernel holds, when it is whole, and what it is at first (01, "The machine").
-use Prim.Native.Nat.{ℕ}
+use Prim.Native.Nat.{ℕ, _+_}
 use mathlib.Core.Bool.{Bool, false, _&&_, _||_, not}
 use mathlib.Core.List.{[], _∷_}
 use lib.Dec.{eqb, leb, ltb}
 use lib.ListN.{getD, set, replicate}
 use Rattle.base.specs.Choice.{if_then_else_, every}
-use Rattle.base.specs.Below.{allBelow, countBelow, lowestBelow}
+use Rattle.base.specs.Below.{allBelow, countBelow, sumBelow, lowestBelow}
 use Rattle.kernel.specs.Types.{TaskId, None, Blocked, TaskControl, WaitQueue, Mutex, Semaphore, Event, Kernel}
 use Rattle.kernel.specs.Update.{withTasks, withMutexes, withSemaphores, withEvents, withTimeSlice}
 use Rattle.kernel.specs.Control.{inState, sameId, hasLimit, objectFits, blankSlot, newTask, regionFits}
@@ -16,9 +16,14 @@ use Rattle.kernel.specs.WaitQueue.{emptyQueue}
 abbrev pub slot : Kernel → ℕ → TaskControl
 slot k i = getD (k .tasks) i blankSlot
 
--- how many ticks were accepted while slot i was current and the kernel started (01's charge)
+-- how many ticks were accepted while the task of slot i was current and the kernel started (01's charge): it starts at 0 with the task's add, and its reap
+-- moves it into the retired sum, `retired_charge` (02, W-206)
 abbrev pub charge : Kernel → ℕ → ℕ
 charge k i = getD (k .charges) i 0
+
+-- the charges of all sixteen slots and the retired sum, added without wrapping
+abbrev pub chargeSum : Kernel → ℕ
+chargeSum k = sumBelow (charge k) 16 + k .«retired_charge»
 
 -- f of the task in slot i
 abbrev pub at : ℕ → (TaskControl → TaskControl) → Kernel → Kernel
@@ -88,14 +93,12 @@ ownedWhole k i = not (slot k i .occupied) || leb (slot k i .«owned_mutex_count�
 abbrev pub queuesWhole : Kernel → ℕ → Bool
 queuesWhole k o = leb (mutex k o .waiters .len) 8 && leb (semaphore k o .waiters .len) 8 && leb (event k o .waiters .len) 8
 
-abbrev pub chargeWhole : Kernel → ℕ → Bool
-chargeWhole k i = leb (charge k i) (k .«tick_count»)
-
 -- of an occupied slot: a limit in a Blocked task only, with an object number below 4
 abbrev pub limitWhole : Kernel → ℕ → Bool
 limitWhole k i = not (slot k i .occupied && hasLimit (slot k i)) || (inState Blocked (slot k i) && objectFits (slot k i .«limit_object»))
 
--- 01's whole kernel, in its order; then what 02 adds
+-- 01's whole kernel, in its order, where "the charges and the retired sum together are at most tick_count" (02, W-206) stands in the place of 01's clause on
+-- each charge; then what 02 adds
 unfoldable pub whole : Kernel → Bool
 whole k =
     every (
@@ -108,7 +111,7 @@ whole k =
     ∷ allBelow (queuesWhole k) 4
     ∷ eqb (k .«task_count») (countBelow (isOccupied k) 16)
     ∷ allBelow (ownedWhole k) 16
-    ∷ allBelow (chargeWhole k) 16
+    ∷ leb (chargeSum k) (k .«tick_count»)
     ∷ allBelow (limitWhole k) 16
     ∷ [])
 
@@ -125,7 +128,7 @@ newEvent = record { signaled = false; waiters = emptyQueue }
 
 -- 01's blank kernel: all zero and empty
 unfoldable pub blankKernel : Kernel
-blankKernel = record { tasks = replicate 16 blankSlot; charges = replicate 16 0; «arena_words» = 0; hz = 0; «tick_count» = 0; started = false; current = record { 0 = 0 }; «task_count» = 0; «next_id» = 0; mutexes = replicate 4 newMutex; semaphores = replicate 4 newSemaphore; events = replicate 4 newEvent }
+blankKernel = record { tasks = replicate 16 blankSlot; charges = replicate 16 0; «retired_charge» = 0; «arena_words» = 0; hz = 0; «tick_count» = 0; started = false; current = record { 0 = 0 }; «task_count» = 0; «next_id» = 0; mutexes = replicate 4 newMutex; semaphores = replicate 4 newSemaphore; events = replicate 4 newEvent }
 
 -- idle: Ready, with the arena's first 8,192 bytes
 abbrev pub idleTask : TaskControl
@@ -133,4 +136,4 @@ idleTask = withTimeSlice 1 (newTask (record { 0 = 0 }) (record { 0 = 255 }) (rec
 
 -- 01's fresh kernel: idle in slot 0, everything else 0 or empty
 unfoldable pub freshKernel : ℕ → ℕ → Kernel
-freshKernel hz words = record { tasks = set (replicate 16 blankSlot) 0 idleTask; charges = replicate 16 0; «arena_words» = words; hz = hz; «tick_count» = 0; started = false; current = record { 0 = 0 }; «task_count» = 1; «next_id» = 1; mutexes = replicate 4 newMutex; semaphores = replicate 4 newSemaphore; events = replicate 4 newEvent }
+freshKernel hz words = record { tasks = set (replicate 16 blankSlot) 0 idleTask; charges = replicate 16 0; «retired_charge» = 0; «arena_words» = words; hz = hz; «tick_count» = 0; started = false; current = record { 0 = 0 }; «task_count» = 1; «next_id» = 1; mutexes = replicate 4 newMutex; semaphores = replicate 4 newSemaphore; events = replicate 4 newEvent }

@@ -7,7 +7,7 @@ use lib.ListN.{set}
 use Rattle.base.specs.Choice.{if_then_else_}
 use Rattle.base.specs.Below.{allBelow, anyBelow, lowestBelow}
 use Rattle.kernel.specs.Types.{TaskId, Priority, OptionTaskId, None, Some, TaskState, Ready, Running, Blocked, Sleeping, Terminated, StackRegion, LimitObject, NoLimit, AtSemaphore, AtEvent, TaskControl, WaitQueue, Kernel}
-use Rattle.kernel.specs.Update.{withLimit, withWakeTick, withRemaining, withOwned, withWaiter, withSp, withResult, withTasks, withCharges, withTickCount, withStarted, withCurrent, withTaskCount, withNextId}
+use Rattle.kernel.specs.Update.{withLimit, withWakeTick, withRemaining, withOwned, withWaiter, withSp, withResult, withTasks, withCharges, withRetiredCharge, withTickCount, withStarted, withCurrent, withTaskCount, withNextId}
 use Rattle.kernel.specs.Control.{inState, holdsTask, hasLimit, entered, expired, unblocked, blankSlot, newTask, regionsOverlap}
 use Rattle.kernel.specs.WaitQueue.{head, popped, removed}
 use Rattle.kernel.specs.Kernel.{slot, charge, at, current, currentTask, currentId, slotOf, isPresent, atId, semaphore, event, withSemaphore, withEvent}
@@ -81,9 +81,13 @@ exit k = wakeWaiter (currentTask k .waiter) (at (current k) terminated k)
 unfoldable pub wait : TaskId → Kernel → Kernel
 wait a k = if inState Terminated (slot k (slotOf k a)) then k else block (at (slotOf k a) (withWaiter (Some (currentId k))) k)
 
--- slot i emptied, task_count down
+-- "Reaping moves it into one retired sum" (02, W-206): slot i's charge is added to the sum, and 0 is left in the slot
+abbrev pub chargeRetired : ℕ → Kernel → Kernel
+chargeRetired i k = withRetiredCharge (k .«retired_charge» + charge k i) (withCharges (set (k .charges) i 0) k)
+
+-- slot i emptied, its charge moved, task_count down
 abbrev pub emptied : ℕ → Kernel → Kernel
-emptied i k = withTaskCount (k .«task_count» - 1) (withTasks (set (k .tasks) i blankSlot) k)
+emptied i k = withTaskCount (k .«task_count» - 1) (withTasks (set (k .tasks) i blankSlot) (chargeRetired i k))
 
 -- the lowest Terminated slot from 1, never current; 16 where there is none
 unfoldable pub reapableSlot : Kernel → ℕ
@@ -132,8 +136,11 @@ overlapsPresent r k = anyBelow (λ i. slot k i .occupied && regionsOverlap r (sl
 abbrev pub nextId : Kernel → TaskId
 nextId k = record { 0 = k .«next_id» }
 
+-- a new task in the lowest empty slot, whose charge "starts at 0" (02, W-206)
 unfoldable pub add : Priority → StackRegion → Kernel → Kernel
-add p r k = withTaskCount (k .«task_count» + 1) (withNextId (k .«next_id» + 1) (at (lowestEmpty k) (λ _. newTask (nextId k) p r) k))
+add p r k =
+    let charges = set (k .charges) (lowestEmpty k) 0 in
+    withTaskCount (k .«task_count» + 1) (withNextId (k .«next_id» + 1) (withCharges charges (at (lowestEmpty k) (λ _. newTask (nextId k) p r) k)))
 
 -- ---- tick
 

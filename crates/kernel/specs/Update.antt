@@ -42,31 +42,34 @@ withLimitPassed v t = record { occupied = t .occupied; id = t .id; state = t .st
 -- ---- of a kernel
 
 abbrev pub withTasks : List TaskControl → Kernel → Kernel
-withTasks v k = record { tasks = v; charges = k .charges; «arena_words» = k .«arena_words»; hz = k .hz; «tick_count» = k .«tick_count»; started = k .started; current = k .current; «task_count» = k .«task_count»; «next_id» = k .«next_id»; mutexes = k .mutexes; semaphores = k .semaphores; events = k .events }
+withTasks v k = record { tasks = v; charges = k .charges; «retired_charge» = k .«retired_charge»; «arena_words» = k .«arena_words»; hz = k .hz; «tick_count» = k .«tick_count»; started = k .started; current = k .current; «task_count» = k .«task_count»; «next_id» = k .«next_id»; mutexes = k .mutexes; semaphores = k .semaphores; events = k .events }
 
 abbrev pub withCharges : List ℕ → Kernel → Kernel
-withCharges v k = record { tasks = k .tasks; charges = v; «arena_words» = k .«arena_words»; hz = k .hz; «tick_count» = k .«tick_count»; started = k .started; current = k .current; «task_count» = k .«task_count»; «next_id» = k .«next_id»; mutexes = k .mutexes; semaphores = k .semaphores; events = k .events }
+withCharges v k = record { tasks = k .tasks; charges = v; «retired_charge» = k .«retired_charge»; «arena_words» = k .«arena_words»; hz = k .hz; «tick_count» = k .«tick_count»; started = k .started; current = k .current; «task_count» = k .«task_count»; «next_id» = k .«next_id»; mutexes = k .mutexes; semaphores = k .semaphores; events = k .events }
+
+abbrev pub withRetiredCharge : ℕ → Kernel → Kernel
+withRetiredCharge v k = record { tasks = k .tasks; charges = k .charges; «retired_charge» = v; «arena_words» = k .«arena_words»; hz = k .hz; «tick_count» = k .«tick_count»; started = k .started; current = k .current; «task_count» = k .«task_count»; «next_id» = k .«next_id»; mutexes = k .mutexes; semaphores = k .semaphores; events = k .events }
 
 abbrev pub withTickCount : ℕ → Kernel → Kernel
-withTickCount v k = record { tasks = k .tasks; charges = k .charges; «arena_words» = k .«arena_words»; hz = k .hz; «tick_count» = v; started = k .started; current = k .current; «task_count» = k .«task_count»; «next_id» = k .«next_id»; mutexes = k .mutexes; semaphores = k .semaphores; events = k .events }
+withTickCount v k = record { tasks = k .tasks; charges = k .charges; «retired_charge» = k .«retired_charge»; «arena_words» = k .«arena_words»; hz = k .hz; «tick_count» = v; started = k .started; current = k .current; «task_count» = k .«task_count»; «next_id» = k .«next_id»; mutexes = k .mutexes; semaphores = k .semaphores; events = k .events }
 
 abbrev pub withStarted : Bool → Kernel → Kernel
-withStarted v k = record { tasks = k .tasks; charges = k .charges; «arena_words» = k .«arena_words»; hz = k .hz; «tick_count» = k .«tick_count»; started = v; current = k .current; «task_count» = k .«task_count»; «next_id» = k .«next_id»; mutexes = k .mutexes; semaphores = k .semaphores; events = k .events }
+withStarted v k = record { tasks = k .tasks; charges = k .charges; «retired_charge» = k .«retired_charge»; «arena_words» = k .«arena_words»; hz = k .hz; «tick_count» = k .«tick_count»; started = v; current = k .current; «task_count» = k .«task_count»; «next_id» = k .«next_id»; mutexes = k .mutexes; semaphores = k .semaphores; events = k .events }
 
 abbrev pub withCurrent : ℕ → Kernel → Kernel
-withCurrent v k = record { tasks = k .tasks; charges = k .charges; «arena_words» = k .«arena_words»; hz = k .hz; «tick_count» = k .«tick_count»; started = k .started; current = record { 0 = v }; «task_count» = k .«task_count»; «next_id» = k .«next_id»; mutexes = k .mutexes; semaphores = k .semaphores; events = k .events }
+withCurrent v k = record { tasks = k .tasks; charges = k .charges; «retired_charge» = k .«retired_charge»; «arena_words» = k .«arena_words»; hz = k .hz; «tick_count» = k .«tick_count»; started = k .started; current = record { 0 = v }; «task_count» = k .«task_count»; «next_id» = k .«next_id»; mutexes = k .mutexes; semaphores = k .semaphores; events = k .events }
 
 abbrev pub withTaskCount : ℕ → Kernel → Kernel
-withTaskCount v k = record { tasks = k .tasks; charges = k .charges; «arena_words» = k .«arena_words»; hz = k .hz; «tick_count» = k .«tick_count»; started = k .started; current = k .current; «task_count» = v; «next_id» = k .«next_id»; mutexes = k .mutexes; semaphores = k .semaphores; events = k .events }
+withTaskCount v k = record { tasks = k .tasks; charges = k .charges; «retired_charge» = k .«retired_charge»; «arena_words» = k .«arena_words»; hz = k .hz; «tick_count» = k .«tick_count»; started = k .started; current = k .current; «task_count» = v; «next_id» = k .«next_id»; mutexes = k .mutexes; semaphores = k .semaphores; events = k .events }
 
 abbrev pub withNextId : ℕ → Kernel → Kernel
-withNextId v k = record { tasks = k .tasks; charges = k .charges; «arena_words» = k .«arena_words»; hz = k .hz; «tick_count» = k .«tick_count»; started = k .started; current = k .current; «task_count» = k .«task_count»; «next_id» = v; mutexes = k .mutexes; semaphores = k .semaphores; events = k .events }
+withNextId v k = record { tasks = k .tasks; charges = k .charges; «retired_charge» = k .«retired_charge»; «arena_words» = k .«arena_words»; hz = k .hz; «tick_count» = k .«tick_count»; started = k .started; current = k .current; «task_count» = k .«task_count»; «next_id» = v; mutexes = k .mutexes; semaphores = k .semaphores; events = k .events }
 
 abbrev pub withMutexes : List Mutex → Kernel → Kernel
-withMutexes v k = record { tasks = k .tasks; charges = k .charges; «arena_words» = k .«arena_words»; hz = k .hz; «tick_count» = k .«tick_count»; started = k .started; current = k .current; «task_count» = k .«task_count»; «next_id» = k .«next_id»; mutexes = v; semaphores = k .semaphores; events = k .events }
+withMutexes v k = record { tasks = k .tasks; charges = k .charges; «retired_charge» = k .«retired_charge»; «arena_words» = k .«arena_words»; hz = k .hz; «tick_count» = k .«tick_count»; started = k .started; current = k .current; «task_count» = k .«task_count»; «next_id» = k .«next_id»; mutexes = v; semaphores = k .semaphores; events = k .events }
 
 abbrev pub withSemaphores : List Semaphore → Kernel → Kernel
-withSemaphores v k = record { tasks = k .tasks; charges = k .charges; «arena_words» = k .«arena_words»; hz = k .hz; «tick_count» = k .«tick_count»; started = k .started; current = k .current; «task_count» = k .«task_count»; «next_id» = k .«next_id»; mutexes = k .mutexes; semaphores = v; events = k .events }
+withSemaphores v k = record { tasks = k .tasks; charges = k .charges; «retired_charge» = k .«retired_charge»; «arena_words» = k .«arena_words»; hz = k .hz; «tick_count» = k .«tick_count»; started = k .started; current = k .current; «task_count» = k .«task_count»; «next_id» = k .«next_id»; mutexes = k .mutexes; semaphores = v; events = k .events }
 
 abbrev pub withEvents : List Event → Kernel → Kernel
-withEvents v k = record { tasks = k .tasks; charges = k .charges; «arena_words» = k .«arena_words»; hz = k .hz; «tick_count» = k .«tick_count»; started = k .started; current = k .current; «task_count» = k .«task_count»; «next_id» = k .«next_id»; mutexes = k .mutexes; semaphores = k .semaphores; events = v }
+withEvents v k = record { tasks = k .tasks; charges = k .charges; «retired_charge» = k .«retired_charge»; «arena_words» = k .«arena_words»; hz = k .hz; «tick_count» = k .«tick_count»; started = k .started; current = k .current; «task_count» = k .«task_count»; «next_id» = k .«next_id»; mutexes = k .mutexes; semaphores = k .semaphores; events = v }

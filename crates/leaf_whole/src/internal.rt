@@ -8,7 +8,8 @@ ghost use mathlib.Core.Path.{_≡_};
 ghost use mathlib.Core.Bool.{true, _&&_, _||_, not};
 ghost use Rattle.base.specs.Below.{allBelow, countBelow};
 ghost use Rattle.kernel.specs.Control.{inState, hasLimit, objectFits, regionFits};
-ghost use Rattle.kernel.specs.Kernel.{arenaFits, isOccupied, regionWhole, ownedWhole, queuesWhole, chargeWhole, limitWhole, whole};
+ghost use lib.Dec.{leb};
+ghost use Rattle.kernel.specs.Kernel.{chargeSum, arenaFits, isOccupied, regionWhole, ownedWhole, queuesWhole, limitWhole, whole};
 
 pub fn arena_fits(words: usize) -> bool
     ensures { λ r. ⌜ r ≡ arenaFits words ⌝ }
@@ -55,35 +56,49 @@ fn is_occupied(k: Kernel, i: usize) -> bool
 struct Slots {
     regions: bool,
     owned: bool,
-    charges: bool,
     limits: bool,
     occupied: usize,
 }
 
 fn slots_whole(k: Kernel) -> Slots
-    ensures { λ r. ⌜ (r .regions ≡ allBelow (regionWhole k) 16) × (r .owned ≡ allBelow (ownedWhole k) 16) × (r .charges ≡ allBelow (chargeWhole k) 16) × (r .limits ≡ allBelow (limitWhole k) 16) × (r .occupied ≡ countBelow (isOccupied k) 16) ⌝ }
+    ensures { λ r. ⌜ (r .regions ≡ allBelow (regionWhole k) 16) × (r .owned ≡ allBelow (ownedWhole k) 16) × (r .limits ≡ allBelow (limitWhole k) 16) × (r .occupied ≡ countBelow (isOccupied k) 16) ⌝ }
 {
     let words = k.arena_words;
     let mut regions = true;
     let mut owned = true;
-    let mut charges = true;
     let mut limits = true;
     let mut occupied: usize = 0;
     for i in 0..Kernel::MAX_TASKS {
         let t = k.tasks[i];
         regions = regions & region_whole(t, words);
         owned = owned & (!t.occupied | (t.owned_mutex_count <= TaskControl::MAX_OWNED_MUTEXES));
-        charges = charges & (k.charges[i] <= k.tick_count);
         limits = limits & limit_whole(t);
         occupied = occupied + (t.occupied as usize);
     }
     Slots {
         regions,
         owned,
-        charges,
         limits,
         occupied,
     }
+}
+
+// The retired sum and the charges are taken off tick_count one after another, so that no sum is formed that could wrap.
+fn charges_whole(k: Kernel) -> bool
+    ensures { λ r. ⌜ r ≡ leb (chargeSum k) (k .«tick_count») ⌝ }
+{
+    if k.tick_count < k.retired_charge {
+        return false;
+    }
+    let mut left = k.tick_count - k.retired_charge;
+    for i in 0..Kernel::MAX_TASKS {
+        let charge = k.charges[i];
+        if left < charge {
+            return false;
+        }
+        left = left - charge;
+    }
+    true
 }
 
 fn queues_whole(k: Kernel) -> bool
@@ -107,6 +122,7 @@ fn looked_at(k: Kernel) -> bool
 {
     let words = k.arena_words as usize;
     let current = k.current.0;
+    let charges = charges_whole(k);
     let slots = slots_whole(k);
     arena_fits(words)
         & (1 <= k.hz)
@@ -115,9 +131,9 @@ fn looked_at(k: Kernel) -> bool
         & is_occupied(k, current)
         & slots.regions
         & queues_whole(k)
-        & (k.task_count == slots.occupied)
+        & (k.task_count as usize == slots.occupied)
         & slots.owned
-        & slots.charges
+        & charges
         & slots.limits
 }
 

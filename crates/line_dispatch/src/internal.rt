@@ -69,7 +69,7 @@ fn list(k: Kernel, room: usize, arena: &[u32], out: &mut [u8], at: &mut usize) -
     let answer = listed.answer;
     if answer.number == 0 {
         let records = listed.records;
-        *at = line_records::internal::put_list(out, *at, records, k.task_count);
+        *at = line_records::internal::put_list(out, *at, records, k.task_count as usize);
     }
     answer
 }

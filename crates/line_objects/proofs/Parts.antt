@@ -13,3 +13,6 @@ module _ {out out′ out″ : List ℕ} {at b c : ℕ} where
 
   pub then-five : (t u v w x y : List ℕ) → Writes out at t out′ b → Writes out′ b (u ++ v ++ w ++ x ++ y) out″ c → Writes out at (t ++ u ++ v ++ w ++ x ++ y) out″ c
   then-five t u v w x y first second = same-text (simp append-assoc) (written-then t (u ++ v ++ w ++ x ++ y) first second)
+
+  pub then-seven : (t u v w x y z s : List ℕ) → Writes out at t out′ b → Writes out′ b (u ++ v ++ w ++ x ++ y ++ z ++ s) out″ c → Writes out at (t ++ u ++ v ++ w ++ x ++ y ++ z ++ s) out″ c
+  then-seven t u v w x y z s first second = same-text (simp append-assoc) (written-then t (u ++ v ++ w ++ x ++ y ++ z ++ s) first second)

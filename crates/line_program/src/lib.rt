@@ -15,7 +15,7 @@ struct Read {
     more: bool,
 }
 
-// How many bytes are read at a time: 4,096 × 13 and 6 × 10,333 bytes of replies have room in 65,536.
+// How many bytes are read at a time: 4,096 × 13 and 6 × 10,356 bytes of replies have room in 65,536.
 fn chunk_bytes(tables: bool) -> usize
     ensures { λ r. ⌜ (replyRoom tables * r ≤ 65536) × (r ≤ 4096) × (0 < r) ⌝ }
 {

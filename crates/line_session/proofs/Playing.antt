@@ -140,7 +140,7 @@ played-all input i l before = same-bytes (take-all i input l) before
 pub no-table : (tables : Bool) → tables ≡ false → replyRoom tables ≡ 13
 no-table tables e = sym (left _ _ _ _ e refl)
 
-pub with-table : (tables : Bool) → tables ≡ true → replyRoom tables ≡ 10333
+pub with-table : (tables : Bool) → tables ≡ true → replyRoom tables ≡ 10356
 with-table tables e = sym (taken _ _ _ _ e refl)
 
 pub answer-room : (tables : Bool) → 13 ≤ replyRoom tables

@@ -35,9 +35,9 @@ answerOf tables s arena = answerTo (s .kernel) arena (frameIn tables s)
 unfoldable pub reply : Bool → Answer → List ℕ → List ℕ
 reply tables a added = answerDigits a ++ (if tables then added ++ (10 ∷ tableLine (a .kernel)) else 10 ∷ [])
 
--- no reply is longer: 12 for the digits, 1,681 for what is added, 1 for the line feed, 8,639 for the table
+-- no reply is longer: 12 for the digits, 1,681 for what is added, 1 for the line feed, 8,662 for the table
 abbrev pub replyRoom : Bool → ℕ
-replyRoom tables = if tables then 10333 else 13
+replyRoom tables = if tables then 10356 else 13
 
 -- ---- a byte: a line feed ends the line, any other lengthens it
 

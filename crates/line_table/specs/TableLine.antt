@@ -75,7 +75,7 @@ rankText occupied number = if occupied then decimal number else 45 ∷ []
 unfoldable pub ranksText : Kernel → List ℕ
 ranksText k = joined 44 (λ i. true) (λ i. rankText (slot k i .occupied) (rank k i)) 16
 
--- ---- the line
+-- ---- the line; its last segment is the retired sum
 
 unfoldable pub tableLine : Kernel → List ℕ
 tableLine k =
@@ -83,4 +83,4 @@ tableLine k =
     ++ bar ++ objectsText (λ i. mutexText (mutex k i))
     ++ bar ++ objectsText (λ i. semaphoreText (semaphore k i))
     ++ bar ++ objectsText (λ i. eventText (event k i))
-    ++ bar ++ chargesText k ++ bar ++ limitsText k ++ bar ++ ranksText k ++ (10 ∷ [])
+    ++ bar ++ chargesText k ++ bar ++ limitsText k ++ bar ++ ranksText k ++ bar ++ decimal (k .«retired_charge») ++ (10 ∷ [])

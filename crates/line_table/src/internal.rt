@@ -287,21 +287,23 @@ fn put_limits_and_ranks(out: &mut [u8], at: usize, k: Kernel) -> usize
 }
 
 fn put_charges_and_added(out: &mut [u8], at: usize, k: Kernel) -> usize
-    requires { ⌜ at + 1750 ≤ length (now out) ⌝ }
-    ensures { λ r. ⌜ Writes (now (out .entry)) at (chargesText k ++ bar ++ limitsText k ++ bar ++ ranksText k) (now (out .exit)) r ⌝ }
-    ensures short { λ r. ⌜ r ≤ at + 1750 ⌝ }
+    requires { ⌜ at + 1773 ≤ length (now out) ⌝ }
+    ensures { λ r. ⌜ Writes (now (out .entry)) at (chargesText k ++ bar ++ limitsText k ++ bar ++ ranksText k ++ bar ++ decimal (k .«retired_charge»)) (now (out .exit)) r ⌝ }
+    ensures short { λ r. ⌜ r ≤ at + 1773 ⌝ }
 {
     let mut n = put_charges(out, at, k);
     n = put_bar(out, n);
-    put_limits_and_ranks(out, n, k)
+    n = put_limits_and_ranks(out, n, k);
+    n = put_bar(out, n);
+    put_decimal(out, n, k.retired_charge)
 }
 
 // ---- the line
 
 pub fn put_table(out: &mut [u8], at: usize, k: Kernel) -> usize
-    requires { ⌜ at + 8639 ≤ length (now out) ⌝ }
+    requires { ⌜ at + 8662 ≤ length (now out) ⌝ }
     ensures { λ r. ⌜ Writes (now (out .entry)) at (tableLine k) (now (out .exit)) r ⌝ }
-    ensures short { λ r. ⌜ r ≤ at + 8639 ⌝ }
+    ensures short { λ r. ⌜ r ≤ at + 8662 ⌝ }
 {
     let mut n = put_slots(out, at, k);
     n = put_bar(out, n);

@@ -33,6 +33,9 @@ fn printed(program: &[&str], list: &[u8]) -> std::io::Result<(Vec<u8>, bool)> {
     Ok((out, ended_well))
 }
 
+/// How a difference begins that is none from the Rust, but from W-206's law.
+const LAW: &str = "charges: ";
+
 /// An answer, the value left out where the Rust returns nothing.
 fn answer(line: &[u8], op: u8) -> Vec<u8> {
     let mut line = line.to_vec();
@@ -50,12 +53,30 @@ fn cut(line: &[u8]) -> (&[u8], &[u8]) {
     }
 }
 
-/// A line of `tables` without its last three parts, the charges, the limits and
-/// the ranks; the limits; and the ranks.
-fn table(line: &[u8]) -> (&[u8], &[u8], &[u8]) {
+/// A line of `tables` without its last four parts; and these: the charges, the
+/// limits, the ranks and the retired sum.
+fn table(line: &[u8]) -> (&[u8], [&[u8]; 4]) {
+    let (line, retired) = cut(line);
     let (line, ranks) = cut(line);
     let (line, limits) = cut(line);
-    (cut(line).0, limits, ranks)
+    let (line, charges) = cut(line);
+    (line, [charges, limits, ranks, retired])
+}
+
+/// W-206's law: the charges of occupied slots and the retired sum are the ticks
+/// accepted after the start, and empty slots have 0. Which slots are occupied
+/// is the Rust's.
+fn adds_up(tables: &Tables, charges: &[u8], retired: &[u8], ticks: u64) -> bool {
+    let number = |text: &[u8]| std::str::from_utf8(text).ok()?.parse::<u64>().ok();
+    let charges: Option<Vec<u64>> = charges.split(|&byte| byte == b',').map(number).collect();
+    let (Some(charges), Some(retired)) = (charges, number(retired)) else {
+        return false;
+    };
+    let empty = |at: usize| tables.slots[at].is_none();
+    charges.len() == SLOTS
+        && (0..SLOTS).all(|at| !empty(at) || charges[at] == 0)
+        && charges.iter().map(|&charge| charge as u128).sum::<u128>() + retired as u128
+            == ticks as u128
 }
 
 /// The limits of a list without a limited wait: none, and no mark.
@@ -71,16 +92,24 @@ fn own_numbers(tables: &Tables) -> Vec<u8> {
     tables.slots.map(own).join(",").into_bytes()
 }
 
-/// The first call, counted from 0, whose answer or table is not the same, with
-/// what was wanted and what was printed.
+/// The first call, counted from 0, whose answer or table is not the same, or
+/// after which the charges do not add up, with what was wanted and what was
+/// printed.
 fn difference(list: &[Call], got: &[u8]) -> Option<(usize, String, String)> {
     let mut got_lines = got.split(|&byte| byte == b'\n');
     let text = |bytes: &[u8]| String::from_utf8_lossy(bytes).into_owned();
 
     renew();
     init(HZ);
+    let mut ticks = 0;
     for (at, &asked) in list.iter().enumerate() {
+        let started = tables().started;
         let said = call(asked);
+        ticks = match asked.op {
+            FRESH => 0,
+            TICK if started => ticks + 1,
+            _ => ticks,
+        };
         let (mut want, mut want_table) = (Vec::new(), Vec::new());
         put_said(&mut want, asked, said);
         put_tables(&mut want_table, &tables());
@@ -92,7 +121,7 @@ fn difference(list: &[Call], got: &[u8]) -> Option<(usize, String, String)> {
             return Some((at, text(&want), text(line)));
         }
         let line = got_lines.next().unwrap_or(b"");
-        let (got_table, got_limits, got_ranks) = table(line);
+        let (got_table, [charges, got_limits, got_ranks, retired]) = table(line);
         if got_table != want_table {
             return Some((at, text(&want_table), text(line)));
         }
@@ -103,6 +132,9 @@ fn difference(list: &[Call], got: &[u8]) -> Option<(usize, String, String)> {
         let want_ranks = own_numbers(&tables());
         if got_ranks != want_ranks {
             return Some((at, text(&want_ranks), text(line)));
+        }
+        if !adds_up(&tables(), charges, retired, ticks) {
+            return Some((at, format!("{LAW}{ticks} in all, 0 in empty slots"), text(line)));
         }
     }
 
@@ -162,7 +194,7 @@ pub fn run(program: &[&str]) -> ExitCode {
                 println!("{}", String::from_utf8_lossy(line));
             }
             println!("reference: {want}\nprogram:   {got}");
-            return ExitCode::from(1);
+            return ExitCode::from(if want.starts_with(LAW) { 4 } else { 1 });
         }
         for one in asked {
             *calls.entry(one.op).or_default() += 1;

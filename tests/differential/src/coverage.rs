@@ -46,7 +46,39 @@ pub struct Coverage {
     words: Vec<Word>,
     /// Who owned each mutex last.
     owners: [Option<u32>; OBJECTS],
+    charges: Charges,
     last: u8,
+}
+
+/// The charges, which the Rust has not (W-206): of the tasks in the slots; of
+/// those that were reaped, all together, and whether that slot's last had one.
+#[derive(Default)]
+struct Charges {
+    slots: [u64; SLOTS],
+    retired: u64,
+    moved: [bool; SLOTS],
+}
+
+impl Charges {
+    fn note(&mut self, call: Call, before: &Tables, after: &Tables) {
+        match call.op {
+            TICK if before.started => self.slots[before.current] += 1,
+            FRESH => *self = Self::default(),
+            _ => {}
+        }
+        if let Some(at) = emptied(call, before, after) {
+            self.moved[at] = self.slots[at] > 0;
+            self.retired += self.slots[at];
+            self.slots[at] = 0;
+        }
+    }
+}
+
+/// The slot that a reap emptied.
+fn emptied(call: Call, before: &Tables, after: &Tables) -> Option<usize> {
+    (0..SLOTS)
+        .find(|&at| before.slots[at].is_some() && after.slots[at].is_none())
+        .filter(|_| matches!(call.op, REAP | REAP_ONE))
 }
 
 impl Coverage {
@@ -60,6 +92,7 @@ impl Coverage {
             hz: HZ,
             words: vec![Kept; WORDS],
             owners: [None; OBJECTS],
+            charges: Charges::default(),
             last: 0,
         }
     }
@@ -69,6 +102,7 @@ impl Coverage {
         self.hz = HZ;
         self.words.fill(Kept);
         self.owners = [None; OBJECTS];
+        self.charges = Charges::default();
         self.last = 0;
     }
 
@@ -102,6 +136,7 @@ impl Coverage {
         for (owner, mutex) in self.owners.iter_mut().zip(after.mutexes) {
             *owner = mutex.owner.or(*owner);
         }
+        self.charges.note(call, before, after);
         self.last = call.op;
     }
 
@@ -137,6 +172,7 @@ impl Coverage {
                 case("add after the start", before.started);
                 case("add fills the last slot", before.task_count == SLOTS - 1);
                 case("add into a slot used before", before.next_id as usize != slot);
+                case("add into a slot whose charge was moved", self.charges.moved[slot]);
                 case("add of 16 bytes", call.region().1 == 16);
                 case("add at another hz", self.hz != HZ);
             }
@@ -152,6 +188,10 @@ impl Coverage {
                 case("tick ends the slice", own.state == 1 && own.remaining_slice == 1);
                 case("tick says yes", value == 1);
                 case("tick with current not Running", before.started && own.state != 1);
+                case("tick before the start", !before.started);
+                case("tick with a Terminated current", own.state == 5);
+                case("tick in a slot whose charge was moved",
+                    before.started && self.charges.moved[before.current]);
             }
             SWITCH | START => {
                 let picked = before.slots[after.current].expect("picked");
@@ -187,11 +227,21 @@ impl Coverage {
                     number == 9 && waiter.is_some_and(|id| find(id).is_none()));
             }
             REAP => {
+                let place = before.slots.iter().position(|slot| {
+                    slot.is_some_and(|slot| slot.id == call.y)
+                });
+                let charged = place.is_some_and(|at| self.charges.slots[at] > 0);
+                case("reap, a charge moved", number == 0 && charged);
+                case("reap, no charge", number == 0 && !charged);
+                case("reap refused, a charge left", number == 9 && charged);
                 case("reap of idle refused", number == 9 && call.y == 0);
                 case("reap of a Terminated current refused",
                     number == 9 && call.y == own.id && own.state == 5);
             }
             REAP_ONE => {
+                let charged = emptied(call, before, after).map(|at| self.charges.slots[at] > 0);
+                case("reap_one, a charge moved", charged == Some(true));
+                case("reap_one, no charge", charged == Some(false));
                 case("reap_one, none", value == NONE);
                 case("reap_one passes a Terminated current over", value != NONE && own.state == 5);
                 case("reap_one, none but a Terminated current", value == NONE && own.state == 5);
@@ -325,6 +375,7 @@ impl Coverage {
                 case("fresh after fresh", self.last == FRESH);
                 case("fresh over sixteen tasks", before.task_count == SLOTS);
                 case("fresh over ticks", before.tick_count > 0);
+                case("fresh over a retired sum", self.charges.retired > 0);
                 case("fresh over a mutex that is owned",
                     before.mutexes.iter().any(|mutex| mutex.owner.is_some()));
                 case("fresh over a queue",
@@ -335,6 +386,10 @@ impl Coverage {
                         && before.events.iter().any(|(signalled, _)| *signalled));
             }
             _ => {}
+        }
+        if let Some(at) = emptied(call, before, after) {
+            case("reap or reap_one, a charge to a retired sum",
+                self.charges.slots[at] > 0 && self.charges.retired > 0);
         }
         if matches!(call.op, LOCK | TRY_LOCK) {
             let owned = after.slots[after.current].expect("current").owned;

@@ -1,11 +1,14 @@
--- `added` meets its contract: the lowest empty slot, the id and the count.
+-- `added` meets its contract: the lowest empty slot, its charge, the id and the count.
 use Rattle.kernel.specs.Scheduler
 use borrow.Author.Needs.{needs}
 use Rattle.call_add.proofs.added.Statement.{statement}
 use Rattle.call_add.proofs.added.Tie as tie
 
-pub added-spec : {M : Type 1} → statement M
+returns : tie.Need-returns
 unfolding Scheduler.add
+returns c = rw (c .new .ensures, ← c .before .free-slot .ensures)
+
+pub added-spec : {M : Type 1} → statement M
 added-spec =
     tie.close
     (tie.spec
@@ -16,4 +19,6 @@ added-spec =
     (λ c. search needs)
     (λ c. search needs)
     (λ c. search needs)
-    (λ c. rw (c .new .ensures, ← c .before .free-slot .ensures)))
+    (λ c. search needs)
+    (λ c. search needs)
+    returns)

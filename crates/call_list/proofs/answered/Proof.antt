@@ -11,4 +11,4 @@ returns-2 : tie.Need-returns-2
 returns-2 c = taken _ _ _ _ (search tests) (c .accepted .ensures)
 
 pub answered-spec : {M : Type 1} → statement M
-answered-spec = tie.close (tie.spec (λ c κs. search needs) returns (λ c κs. search needs) returns-2)
+answered-spec = tie.close (tie.spec (λ c κs. search needs) returns (λ c. search needs) (λ c κs. search needs) returns-2)

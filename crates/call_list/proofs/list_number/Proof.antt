@@ -11,4 +11,4 @@ returns c = λ records l. rw (l, c .refuse-if3 .ensures, c .before .refuse-if2 .
 pub list-number-spec : {M : Type 1} → statement M
 list-number-spec =
     tie.close
-    (tie.spec (λ c κs. search needs) (λ c. search needs) (λ c κs. search needs) (λ c κs. search needs) (λ c κs. search needs) returns)
+    (tie.spec (λ c κs. search needs) (λ c. search needs) (λ c. search needs) (λ c κs. search needs) (λ c κs. search needs) (λ c κs. search needs) returns)

@@ -6,7 +6,7 @@ use Rattle.kernel.specs.Scheduler.{reapOne}
 use Rattle.kernel.specs.Calls.{reap-one, value, effect}
 use Rattle.kernel.proofs.Accepted.{accepted-whole}
 use Rattle.kernel.proofs.Step.{step-refused, step-accepted}
-use Rattle.call_reap.proofs.Laws.{has-task}
+use Rattle.call_reap.proofs.Laws.{can-reap}
 use borrow.Author.Needs.{needs}
 use Rattle.call_reap.proofs.internal.reap_one.Statement.{statement}
 use Rattle.call_reap.proofs.internal.reap_one.Tie as tie
@@ -19,7 +19,7 @@ unfolding value effect reapOne if_then_else_
 returns-2 c = step-accepted _ reap-one _ _ (c .before .before .before .before .reap-one-number .ensures) (c .before .before .before .if1 .left) (rw (c .accepted .ensures, via-ge _ _ _ (c .before .before .reapable .ensures) (c .before .if2 .taken)))
 
 reaped-requires : tie.Need-reaped-requires
-reaped-requires c κs = (c .if2 .left, has-task _ (accepted-whole _ reap-one (sym (c .before .before .before .reap-one-number .ensures) ∙ c .before .before .if1 .left)))
+reaped-requires c κs = let h = can-reap _ (accepted-whole _ reap-one (sym (c .before .before .before .reap-one-number .ensures) ∙ c .before .before .if1 .left)) in (c .if2 .left, h .0, h .1)
 
 returns-3 : tie.Need-returns-3
 unfolding value effect reapOne if_then_else_

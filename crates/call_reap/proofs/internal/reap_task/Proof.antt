@@ -3,7 +3,7 @@ use mathlib.Core.Path.{sym, _∙_}
 use Rattle.kernel.specs.Calls.{reap, value, effect}
 use Rattle.kernel.proofs.Accepted.{accepted-whole, reap-accepted}
 use Rattle.kernel.proofs.Step.{step-refused, step-accepted}
-use Rattle.call_reap.proofs.Laws.{has-task}
+use Rattle.call_reap.proofs.Laws.{can-reap}
 use borrow.Author.Needs.{needs}
 use Rattle.call_reap.proofs.internal.reap_task.Statement.{statement}
 use Rattle.call_reap.proofs.internal.reap_task.Tie as tie
@@ -12,7 +12,7 @@ returns : tie.Need-returns
 returns c = step-refused _ (reap _) _ _ (c .before .before .reap-number .ensures) (c .before .if1 .taken) (c .refused .ensures)
 
 reaped-requires : tie.Need-reaped-requires
-reaped-requires c κs = let e = sym (c .before .before .reap-number .ensures) ∙ c .before .if1 .left in (rw (c .slot-of .ensures) (reap-accepted _ _ e .found), has-task _ (accepted-whole _ (reap _) e))
+reaped-requires c κs = let e = sym (c .before .before .reap-number .ensures) ∙ c .before .if1 .left in let h = can-reap _ (accepted-whole _ (reap _) e) in (rw (c .slot-of .ensures) (reap-accepted _ _ e .found), h .0, h .1)
 
 returns-2 : tie.Need-returns-2
 unfolding value effect

@@ -9,9 +9,9 @@ use Rattle.leaf_whole.proofs.internal.looked_at.Tie as tie
 returns : tie.Need-returns
 unfolding whole
 returns c =
-    let d = c .before .before .before .before .before .before .before .before .before .before in
+    let d = c .before .before .before .before .before .before .before .before .before in
     let s = d .before .slots-whole .ensures in
-    rw (s .0, s .1, s .2, s .3, s .4, c .before .before .before .before .before .queues-whole .ensures, c .before .before .before .before .before .before .before .is-occupied2 .ensures, c .before .before .before .before .before .before .before .before .is-occupied .ensures, d .arena-fits .ensures)
+    rw (s .0, s .1, s .2, s .3, d .before .before .charges-whole .ensures, c .before .before .before .before .queues-whole .ensures, c .before .before .before .before .before .before .is-occupied2 .ensures, c .before .before .before .before .before .before .before .is-occupied .ensures, d .arena-fits .ensures)
     (joined-every _ (_ ∷ _ ∷ _ ∷ _ ∷ _ ∷ _ ∷ _ ∷ _ ∷ _ ∷ _ ∷ []))
 
 pub looked-at-spec : {M : Type 1} → statement M
@@ -24,4 +24,6 @@ looked-at-spec =
     (λ c κs. search needs)
     (λ c κs. search needs)
     (λ c κs. search needs)
+    (λ c κs. search needs)
+    (λ c. search needs)
     returns)
