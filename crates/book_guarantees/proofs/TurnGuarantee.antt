@@ -229,8 +229,8 @@ fives f i (suc n) h = go (fives f i n (λ j l. h j (omega (arith, l)))) (ℕ-dis
     go r (yes e) l = (λ _. omega (arith, r .1, skipped e), omega (arith, r .1, small l))
     go r (no ne) l = (λ q. omega (arith, r .0 (omega (arith, q, ne)), small l), omega (arith, r .1, small l))
 
-rises : (j : ℕ) (one : Entry) (between : List Entry) → ticksWhile j (after one) between ≤ 5 → charge (end (after one) between) j ≡ charge (after one) j + ticksWhile j (after one) between → Rises j one between
-rises j one between five e = record { five = omega (arith, five, e); by-ticks = e }
+charge-rises : (j : ℕ) (one : Entry) (between : List Entry) → ticksWhile j (after one) between ≤ 5 → charge (end (after one) between) j ≡ charge (after one) j + ticksWhile j (after one) between → Rises j one between
+charge-rises j one between five e = record { five = omega (arith, five, e); by-ticks = e }
 
 -- an occupied slot is one of the sixteen
 occupied-inside : {k : Kernel} → Invariant k → (j : ℕ) → slot k j .occupied ≡ true → j < 16
@@ -248,8 +248,8 @@ init-invariant hz words e = subst Invariant (init-kernel hz words e) (fresh-inva
 pub turn-guarantee : TurnGuarantee
 turn-guarantee hz words accepted before between rest one two returned i a s u = record {
   one-turn = λ j b q. f .0 j (inside j b q) (q .0 .another) (each-at rank r j b (one ∷ between) (q .0 .stayed) (subst (λ (x : ℕ). Each (λ e. rank (after e) j ≡ x) (one ∷ between)) (q .0 .equal) (refl, q .1)));
-  peers = λ j b q. rises j one between (f .1 j (inside j b q)) (y .account j b (q .0 .stayed));
-  own = rises i one between (f .1 i (begun .1)) (y .account i a (s .stays));
+  peers = λ j b q. charge-rises j one between (f .1 j (inside j b q)) (y .account j b (q .0 .stayed));
+  own = charge-rises i one between (f .1 i (begun .1)) (y .account i a (s .stays));
   others = omega (arith, fives (λ j. ticksWhile j (after one) between) i 16 (f .1) .0 (begun .1));
 }
   where
