@@ -6,7 +6,7 @@
 static uint8_t states[TIBSULAN_SLOTS], priorities[TIBSULAN_SLOTS];
 
 static void ask(const char *when, uint8_t current) {
-    unsigned slot = pick(states, TIBSULAN_SLOTS, priorities, TIBSULAN_SLOTS, current);
+    unsigned slot = tibsulan_pick(states, TIBSULAN_SLOTS, priorities, TIBSULAN_SLOTS, current);
     if (slot == TIBSULAN_REFUSED)
         printf("%s: refused\n", when);
     else

@@ -17,7 +17,7 @@ static const char list[] =
 int main(void) {
     enum { LENGTH = sizeof list - 1 };
     static uint8_t answers[TIBSULAN_ROOM(LENGTH)];
-    size_t length = play_list((const uint8_t *)list, LENGTH, answers, sizeof answers);
+    size_t length = tibsulan_play_list((const uint8_t *)list, LENGTH, answers, sizeof answers);
     /* Here a line is as long as its answer, so both stand at the same place. */
     for (size_t at = 0; at < length; at += TIBSULAN_ANSWER)
         printf("%.12s %.12s\n", list + at, (const char *)answers + at);

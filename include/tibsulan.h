@@ -1,7 +1,7 @@
 /* Tibsulan for C and C++: the pick, and a whole list of calls answered. For x86-64 Linux.
  *
- *   pick         rt staticlib pick         target/staticlib/libpick.a
- *   play_list    rt staticlib play_list    target/staticlib/libplay_list.a
+ *   tibsulan_pick         rt staticlib pick         target/staticlib/libpick.a
+ *   tibsulan_play_list    rt staticlib play_list    target/staticlib/libplay_list.a
  *
  * A slice is a pointer and a length. Of each the caller sees to it that the pointer is not NULL, for the length 0 too, that so many
  * bytes stand there, and that nobody else writes them during the call. With that each call ends on every input. Neither
@@ -28,7 +28,7 @@ extern "C" {
 #define TIBSULAN_TERMINATED 5
 #define TIBSULAN_EMPTY 6
 
-/* What pick answers where it refuses (refusal 22). No slot has this number. */
+/* What tibsulan_pick answers where it refuses (refusal 22). No slot has this number. */
 #define TIBSULAN_REFUSED 255
 
 /* Who runs next: of the Ready slots those with the smallest priority number, and of these the first from current + 1 on, slot 0
@@ -36,12 +36,13 @@ extern "C" {
  *
  * TIBSULAN_REFUSED where a length is not 16, a state is above 6 or current is above 15. The priorities may be any; those of slots
  * that are not Ready do not matter. The two slices are only read. */
-uint8_t pick(const uint8_t *states, size_t states_length, const uint8_t *priorities, size_t priorities_length, uint8_t current);
+uint8_t tibsulan_pick(const uint8_t *states, size_t states_length, const uint8_t *priorities, size_t priorities_length,
+                      uint8_t current);
 
 /* An answer is 12 hex digits and a line feed. */
 #define TIBSULAN_ANSWER 13
 
-/* How many bytes play_list has to be lent for the answers to a list of so many bytes. */
+/* How many bytes tibsulan_play_list has to be lent for the answers to a list of so many bytes. */
 #define TIBSULAN_ROOM(list_length) (TIBSULAN_ANSWER * ((list_length) + 1))
 
 /* A list of calls from a fresh kernel, answered as `turns` answers it: a line in, a line out (README has the notation). The answers
@@ -50,7 +51,7 @@ uint8_t pick(const uint8_t *states, size_t states_length, const uint8_t *priorit
  * Where out_length is below TIBSULAN_ROOM(list_length), 0 is returned and nothing is altered. An empty list has no answers, so with
  * that room too 0 is returned; every other list has at least one. `list` is only read. The two must not overlap. 128 KB of stack
  * suffice: it is tested with that. */
-size_t play_list(const uint8_t *list, size_t list_length, uint8_t *out, size_t out_length);
+size_t tibsulan_play_list(const uint8_t *list, size_t list_length, uint8_t *out, size_t out_length);
 
 #ifdef __cplusplus
 }

@@ -3,11 +3,11 @@ the model and, where a call is in the compared domain, against the Rust; of othe
 a release or signal that drops a head which is not Blocked it has to say W-201, at a wait with a limit W-202, at a lock after which a
 mutex has a queue W-205; from there on the list is held to the model alone. So are the lists of `late` and of `odd`, since no list brings the
 Rust to that tick, and its kernel has no charges. At milliseconds from ticks it has to say W-204; the call alters nothing, and the Rust plays
-the list without it.
+the list without it. The tables of tests/cases/README.md have to name these cases, in this order.
 
   cases.py [DIR]    with DIR, also writes each list and what is printed for it: DIR/NAME.in and DIR/NAME.out for `turns`,
                     DIR/tables/NAME.in and DIR/tables/NAME.out for `tables`, DIR/late and DIR/odd likewise
-  REFERENCE         the program that tests/differential/build makes; default target/differential/reference"""
+  REFERENCE         the program that tests/differential/build makes; without it the Rust's part is left out, and the last line says so"""
 import os
 import subprocess
 import sys
@@ -15,7 +15,7 @@ import sys
 sys.dont_write_bytecode = True
 import model
 
-REFERENCE = os.environ.get("REFERENCE", "target/differential/reference")
+REFERENCE = os.environ.get("REFERENCE")
 README = os.path.join(os.path.dirname(os.path.abspath(__file__)), "..", "cases", "README.md")
 CASES = []
 
@@ -1256,51 +1256,72 @@ def in_domain(call, answer):
     return answer[:2] in ("00", "04", "08", "09") or answer[:2] == "07" and call[:2] == "06"
 
 
+def hold(fine, *why):
+    """Stops with status 1 where it is not so."""
+    if not fine:
+        sys.exit("cases: " + ": ".join(str(part) for part in why))
+
+
 def replayed(calls, last=None):
     """What the reference prints for calls of the domain; with a last line outside it, the number that it gives, or the request."""
     given = "".join(call + "\n" for call in calls + ([] if last is None else [last]))
     done = subprocess.run([REFERENCE, "replay"], input=given, capture_output=True, text=True)
-    assert done.returncode == (0 if last is None else 3), done.stderr
+    hold(done.returncode == (0 if last is None else 3), "the reference", f"status {done.returncode}", done.stderr)
     return done.stdout.splitlines() if last is None else done.stderr.rpartition("(")[2].partition(")")[0].split()[-1]
 
 
 def check(program, name, calls):
-    """Holds the case to the model and the reference; gives what is printed."""
-    lines, printed = [call[0] for call in calls], played(program, [call[0] for call in calls])
+    """Holds the case to the model; gives what is printed."""
+    lines = [call[0] for call in calls]
+    printed = played(program, lines)
     answers = printed if program == "turns" else printed[::2]
-    (end, request), asked, mine = compared(program, lines) if program not in ("late", "odd") else (-1, None), [], []
     for at, (call, answer, *after) in enumerate(calls):
-        assert answers[at] == answer, (name, at, call, answers[at], answer)
+        where = f"{program}, {name}, call {at} from 0, {call}"
+        hold(answers[at] == answer, where, f"worked out {answer}, the model has {answers[at]}")
         for want in after:
             # The whole table, or its end.
             same = printed[2 * at + 1].endswith(want) if want.startswith(" | ") else printed[2 * at + 1] == want
-            assert same, (name, at, call, printed[2 * at + 1], want)
-        if at >= end:
-            assert at > end or replayed(asked, call) == request, (name, at, call)
+            hold(same, where, f"worked out {want}, the model has {printed[2 * at + 1]}")
+    return lines, printed
+
+
+def check_by_rust(program, name, calls):
+    """Holds the case to the reference."""
+    (end, request), asked, mine = compared(program, [call[0] for call in calls]), [], []
+    for at, (call, answer, *_) in enumerate(calls[:end + 1]):
+        where = f"{program}, {name}, call {at} from 0, {call}"
+        if at == end:
+            said, want = replayed(asked, call), request
         elif program == "tables" and call[:2] == "18" and answer[:2] != "ff":
-            assert replayed(asked, call) == "W-204", (name, at, call)
+            said, want = replayed(asked, call), "W-204"
         elif in_domain(call, answer):
             asked.append(call)
+            continue
         elif program == "tables" or call[:2] not in ("15", "16", "18", "1b", "1c", "1d", "1e", "1f"):     # of `tables` alone
-            number = replayed(asked, call)
-            assert number == answer[:2], (name, at, call, number, answer)
+            said, want = replayed(asked, call), answer[:2]
+        else:
+            continue
+        hold(said == want, where, f"the reference says {said} and not {want}")
     model.replay("".join(call + "\n" for call in asked).encode(), mine)
-    assert replayed(asked) == [text.rstrip("\n") for text in mine], name
-    return lines, printed
+    hold(replayed(asked) == [text.rstrip("\n") for text in mine], f"{program}, {name}", "the Rust prints something else")
 
 
 def main():
     with open(README) as file:
         rows = [row for row in file.read().splitlines() if row.startswith("| ") and not row.startswith("| Case |")]
-    assert rows == [f"| {name} | {shows} |" for _, name, shows, _ in CASES], "the tables of tests/cases/README.md are others"
+    hold(rows == [f"| {name} | {shows} |" for _, name, shows, _ in CASES], "the tables of tests/cases/README.md are others")
     for program, name, _, calls in CASES:
-        for end, texts in zip((".in", ".out"), check(program, name, calls)):
-            if len(sys.argv) > 1:
-                folder = os.path.join(sys.argv[1], *([] if program == "turns" else [program]))
-                os.makedirs(folder, exist_ok=True)
+        made = check(program, name, calls)
+        if REFERENCE and program not in ("late", "odd"):
+            check_by_rust(program, name, calls)
+        if len(sys.argv) > 1:
+            folder = os.path.join(sys.argv[1], *([] if program == "turns" else [program]))
+            os.makedirs(folder, exist_ok=True)
+            for end, texts in zip((".in", ".out"), made):
                 with open(os.path.join(folder, name + end), "w") as file:
                     file.write("".join(text + "\n" for text in texts))
-    print(f"{len(CASES)} cases: as worked out, as the model and, in its domain, as the Rust")
+    rust = " and, in its domain, as the Rust" if REFERENCE else "; the Rust's part was left out, since no REFERENCE is named"
+    print(f"{len(CASES)} cases: as worked out, as the page names them, as the model{rust}")
 
 
 if __name__ == "__main__":

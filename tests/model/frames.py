@@ -1,5 +1,5 @@
 #!/usr/bin/env python3
-"""Random lists for `turns` or `tables` that meet every refusal that a list from fresh can meet there, with malformed lines; lists
+"""Random lists for `turns` or `tables` that are to meet every refusal that a list from fresh can meet there, with malformed lines; lists
 in which release or signal drops up to eight heads; lists with chains of one to four links from waiter to owner and rings of two to
 four; and for `tables` lists in which limits end: out of queues of up to eight by their own ticks, and in every other way; lists with
 the milliseconds of ticks, at many rates; and lists in which tasks with charges are reaped and others get their slots.

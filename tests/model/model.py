@@ -837,10 +837,12 @@ def wrong_ranks(kernel, links=LINKS, highest=False, skip=False, up=False):
     """Ranks that are not 02's: by chains of at most so many links; by the highest mutex at which a task is queued; by the lowest whose
     owner is present; or of waiters that are not Blocked too. With none of these they are 02's."""
     def link(at):
+        if not up and kernel.slots[at].state != BLOCKED:
+            return None
         found = [kernel.find(kernel.mutexes[k].owner) for k in kernel.mutexes_of(at)]
         if skip:
             found = [to for to in found if to is not None]
-        return found[-1 if highest else 0] if found and (up or kernel.slots[at].state == BLOCKED) else None
+        return found[-1 if highest else 0] if found else None
 
     ranks = [None if task is None else task.priority for task in kernel.slots]
     for at, task in enumerate(kernel.slots):
@@ -856,14 +858,14 @@ WRONG_PICKS = {"the own number": {"links": 0}, "one link": {"links": 1}, "two li
                "the highest mutex": {"highest": True}, "the next mutex where an owner is gone": {"skip": True}, "waiters that are up": {"up": True}}
 
 
-def picks_of(kernel):
-    """What start or switch would pick, before the call, with every kind of rank; and the ranks."""
+def picks_of(kernel, picking):
+    """Before a call the ranks, the states that a start or a switch would look at and, where it is one, what it would pick by every kind of
+    rank that is not 02's."""
     states = kernel.states()
     if kernel.started and kernel.own().state == RUNNING:
         states[kernel.current] = READY
-    ranks = kernel.ranks()
-    picks = {name: pick(states, wrong_ranks(kernel, **how), kernel.current) for name, how in WRONG_PICKS.items()}
-    return ranks, states, picks
+    picks = {name: pick(states, wrong_ranks(kernel, **how), kernel.current) for name, how in WRONG_PICKS.items()} if picking else {}
+    return kernel.ranks(), states, picks
 
 
 def ranks_met(before, kernel, op):
@@ -926,7 +928,7 @@ def run(data, tables, out, tick=0, odd=False):
     for line in lines_of(data):
         kernel = machine.kernel
         queues = any(mutex.queue for mutex in kernel.mutexes)
-        seen = ([None if t is None else t.id for t in kernel.slots], *picks_of(kernel), kernel.current,
+        seen = ([None if t is None else t.id for t in kernel.slots], *picks_of(kernel, line[:2] in (b"02", b"04")), kernel.current,
                 kernel.mutexes_of(kernel.current)) if queues or line[:2] == b"0a" else None
         charged = charges_before(kernel) if tables and line[:2] in CHARGING else None
         current, before = kernel.current, {at: (t.id, t.limit, t.ended) for at, t in enumerate(kernel.slots) if t is not None} if tables else {}

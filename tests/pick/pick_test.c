@@ -41,7 +41,7 @@ static uint32_t next_random(uint32_t *state) {
 }
 
 static uint8_t table_pick(const uint8_t *states, const uint8_t *priorities, unsigned current) {
-    return pick(states, SLOTS, priorities, SLOTS, (uint8_t)current);
+    return tibsulan_pick(states, SLOTS, priorities, SLOTS, (uint8_t)current);
 }
 
 static void exam_cases(void) {
@@ -63,12 +63,12 @@ static void exam_cases(void) {
 
 static void refusals(void) {
     uint8_t s[SLOTS + 1] = {0}, p[SLOTS + 1] = {0};
-    expect("15 states", pick(s, 15, p, 16, 0), REFUSED);
-    expect("17 states", pick(s, 17, p, 16, 0), REFUSED);
-    expect("no state", pick(s, 0, p, 16, 0), REFUSED);
-    expect("15 priorities", pick(s, 16, p, 15, 0), REFUSED);
-    expect("17 priorities", pick(s, 16, p, 17, 0), REFUSED);
-    expect("current 15", pick(s, 16, p, 16, 15), 0);
+    expect("15 states", tibsulan_pick(s, 15, p, 16, 0), REFUSED);
+    expect("17 states", tibsulan_pick(s, 17, p, 16, 0), REFUSED);
+    expect("no state", tibsulan_pick(s, 0, p, 16, 0), REFUSED);
+    expect("15 priorities", tibsulan_pick(s, 16, p, 15, 0), REFUSED);
+    expect("17 priorities", tibsulan_pick(s, 16, p, 17, 0), REFUSED);
+    expect("current 15", tibsulan_pick(s, 16, p, 16, 15), 0);
     for (unsigned current = 16; current < 256; current++)
         expect("current above 15", table_pick(s, p, current), REFUSED);
     for (unsigned slot = 0; slot < SLOTS; slot++) {

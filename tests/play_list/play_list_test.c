@@ -1,4 +1,4 @@
-/* The exported play_list, linked to C: the rules of room, and each list that is named, NAME.in, held to NAME.out. */
+/* The exported tibsulan_play_list, linked to C: the rules of room, and each list that is named, NAME.in, held to NAME.out. */
 #include <stdio.h>
 #include <stdlib.h>
 #include <string.h>
@@ -31,7 +31,7 @@ static void play(const char *what, const uint8_t *given, size_t length, const ui
     for (size_t more = 0; more <= 100; more += 50) {
         uint8_t *out = malloc(room + more);
         memset(out, MARK, room + more);
-        size_t written = play_list(given, length, out, room + more);
+        size_t written = tibsulan_play_list(given, length, out, room + more);
         expect(what, written == answers_length && memcmp(out, answers, answers_length) == 0);
         expect("later bytes are altered", all_marked(out + written, room + more - written));
         free(out);
@@ -42,7 +42,7 @@ static void play(const char *what, const uint8_t *given, size_t length, const ui
             continue;
         uint8_t *out = malloc(room);
         memset(out, MARK, room);
-        expect("too little room, and not 0", play_list(given, length, out, few[at]) == 0);
+        expect("too little room, and not 0", tibsulan_play_list(given, length, out, few[at]) == 0);
         expect("too little room, and bytes are altered", all_marked(out, room));
         free(out);
     }

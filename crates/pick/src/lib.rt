@@ -107,7 +107,7 @@ fn any_unknown(states: &[u8]) -> bool
 
 // For C: the pick over 16 state bytes and 16 priority bytes; 255 stands for refusal 22.
 #[no_mangle]
-pub extern "C" fn pick(states: &[u8], priorities: &[u8], current: u8) -> u8
+pub extern "C" fn tibsulan_pick(states: &[u8], priorities: &[u8], current: u8) -> u8
     ensures { λ r. ⌜ r ≡ pickBytes (now (states .entry)) (now (priorities .entry)) current ⌝ }
 {
     if states.len() != Kernel::MAX_TASKS {

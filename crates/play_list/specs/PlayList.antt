@@ -1,4 +1,4 @@
--- What the exported `play_list` does with a list of lines and what is lent for the answers.
+-- What the exported `tibsulan_play_list` does with a list of lines and what is lent for the answers.
 use Prim.Native.Nat.{ℕ, _+_, _*_, _≤_, _<_}
 use mathlib.Core.Path.{_≡_}
 use mathlib.Core.Bool.{false}

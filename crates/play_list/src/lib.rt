@@ -26,7 +26,7 @@ fn play_all(list: &[u8], out: &mut [u8]) -> usize
 // returned. `out` needs 13 bytes for each byte of the list and 13 more; where it has fewer, 0 is returned and nothing is altered. The two
 // must not overlap.
 #[no_mangle]
-pub extern "C" fn play_list(list: &[u8], out: &mut [u8]) -> usize
+pub extern "C" fn tibsulan_play_list(list: &[u8], out: &mut [u8]) -> usize
     ensures { λ r. ⌜ PlaysList (now (list .entry)) (now (out .entry)) (now (out .exit)) r ⌝ }
     ensures short { λ r. ⌜ r ≤ length (now (out .exit)) ⌝ }
 {

@@ -12,7 +12,7 @@ int main(void) {
             return 1;
         for (int at = 0; at < 66; at++)
             bytes[at / 2] = (uint8_t)(bytes[at / 2] * 16 + (line[at] <= '9' ? line[at] - '0' : line[at] - 'a' + 10));
-        printf("%02x\n", pick(bytes, 16, bytes + 16, 16, bytes[32]));
+        printf("%02x\n", tibsulan_pick(bytes, 16, bytes + 16, 16, bytes[32]));
     }
     return 0;
 }

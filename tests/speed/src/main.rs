@@ -1,5 +1,5 @@
-//! Times `play_list` and the published kernel on the same lists, in one
-//! process. Prints a table in Markdown.
+//! Times `tibsulan_play_list` and the published kernel on the same lists, in
+//! one process. Prints a table in Markdown.
 
 mod lists;
 #[allow(dead_code)]
@@ -29,7 +29,7 @@ struct Time {
 
 unsafe extern "C" {
     /// A slice is a pointer and a length.
-    fn play_list(list: *const u8, list_len: usize, out: *mut u8, out_len: usize) -> usize;
+    fn tibsulan_play_list(list: *const u8, list_len: usize, out: *mut u8, out_len: usize) -> usize;
 
     fn clock_gettime(clock: i32, time: *mut Time) -> i32;
 }
@@ -57,9 +57,9 @@ fn play_rust(list: &[u8], out: &mut Vec<u8>) {
     }
 }
 
-/// The same by `play_list`. How many bytes it wrote.
+/// The same by `tibsulan_play_list`. How many bytes it wrote.
 fn play_rattle(list: &[u8], out: &mut [u8]) -> usize {
-    unsafe { play_list(list.as_ptr(), list.len(), out.as_mut_ptr(), out.len()) }
+    unsafe { tibsulan_play_list(list.as_ptr(), list.len(), out.as_mut_ptr(), out.len()) }
 }
 
 /// Whether the answers are equal byte for byte. The values of wake, release and
@@ -94,7 +94,7 @@ impl Quartiles {
     }
 }
 
-/// Standard input through `play_list`, for a comparison with `turns`; and that
+/// Standard input through `tibsulan_play_list`, for a comparison with `turns`; and that
 /// it refuses room that is one byte short, and then alters nothing.
 fn answers() -> ExitCode {
     let mut list = Vec::new();
@@ -115,7 +115,7 @@ fn main() -> ExitCode {
     if std::env::args().nth(1).as_deref() == Some("answers") {
         return answers();
     }
-    println!("| List | Tasks | Calls | play_list, ns a call | the Rust, ns a call | Ratio |");
+    println!("| List | Tasks | Calls | tibsulan_play_list, ns a call | the Rust, ns a call | Ratio |");
     println!("|---|---:|---:|---:|---:|---:|");
 
     for (name, make, sizes) in LISTS {

@@ -52,6 +52,7 @@ read-on-spec =
     (λ c. search needs)
     slice-aggregate-written
     (λ c κs. search needs)
+    (λ c κs. search needs)
     (λ c. search needs)
     (λ c. search needs)
     (λ c. search needs)
