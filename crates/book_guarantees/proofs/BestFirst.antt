@@ -1,14 +1,14 @@
 -- The pick gives, of the Ready slots, one of the smallest rank, and of those the first from c + 1 on in the ring.
 use mathlib.Core.Path.{_≡_, refl, ap, _∙_}
 use mathlib.Core.Bool.{Bool, true, false, _&&_, _||_, not}
-use Prim.Native.Nat.{ℕ, zero, suc, _-_, _≤_, _<_}
+use Prim.Native.Nat.{ℕ, zero, suc, _+_, _-_, _*_, _%_, _≤_, _<_}
 use native.Mathlib.Decide.{decLt}
 use native.Mathlib.Omega.{arith}
 use lib.Dec.{eqb, ltb}
 use borrow.Author.Tests.{le-ltb, lt-ltb, ltb-false, eqb-true, eq-eqb}
 use Rattle.base.specs.Below.{anyBelow, lowestBelow}
 use Rattle.base.proofs.Choices.{taken, and-left, and-right}
-use Rattle.base.proofs.Loops.{all-at, all-each, lowest-at, lowest-is}
+use Rattle.base.proofs.Loops.{all-at, all-each, lowest-at, lowest-is, lowest-before}
 use Rattle.kernel.specs.Scheduler.{slotAfter, isBest, distance, pick}
 use Rattle.book_guarantees.proofs.Ring.{ahead, rounds, ahead-after, after-ahead}
 
@@ -16,7 +16,7 @@ pub clash : {A : Type 0} {b : Bool} → b ≡ true → b ≡ false → A
 clash p q = let y : _≡_ {A = ℕ} 0 1 = cc in let o : ⊥ = omega (arith, y) in absurd o
 
 -- a number that p holds of, from one of them and to one of them
-any-some : (p : ℕ → Bool) (n i : ℕ) → i < n → p i ≡ true → anyBelow p n ≡ true
+pub any-some : (p : ℕ → Bool) (n i : ℕ) → i < n → p i ≡ true → anyBelow p n ≡ true
 unfolding anyBelow
 any-some p zero i h e = absurd (omega arith)
 any-some p (suc n) i h e = go (anyBelow p n) refl (decLt i n) (any-some p n i)
@@ -40,6 +40,14 @@ pub record Rather (ready : ℕ → Bool) (rank : ℕ → ℕ) (c s j : ℕ) : Ty
   pub is : ready s ≡ true
   pub best : rank s ≤ rank j
   pub first : rank s ≡ rank j → ahead c s ≤ ahead c j
+
+-- s is Ready, none has a smaller rank, and of those with that rank it is the first from c + 1 on
+pub record First (ready : ℕ → Bool) (rank : ℕ → ℕ) (c s : ℕ) : Type 0 where
+  pub is : ready s ≡ true
+  pub smallest : (j : ℕ) → j < 16 → ready j ≡ true → rank s ≤ rank j
+  pub n : ℕ
+  pub here : slotAfter c n ≡ s
+  pub first : (m : ℕ) → m < n → ready (slotAfter c m) ≡ true → rank s < rank (slotAfter c m)
 
 module _ (ready : ℕ → Bool) (rank : ℕ → ℕ) where
   -- ---- one of the Ready slots is best
@@ -86,6 +94,39 @@ module _ (ready : ℕ → Bool) (rank : ℕ → ℕ) where
   unfolding pick
   pick-at c l = taken _ _ _ _ (lt-ltb (distance ready rank c) 16 l) refl
 
+  -- a best slot comes within one round, whatever c is
+  near : (c j : ℕ) → j < 16 → ready j ≡ true → distance ready rank c < 16
+  near c j hj r =
+      let m = some-best j hj r in
+      let back : slotAfter c ((m .0 + 15 * (c + 1)) % 16) ≡ m .0 = omega (arith, m .1) in
+      omega (arith, lowest-at (λ n. isBest ready rank (slotAfter c n)) 16 ((m .0 + 15 * (c + 1)) % 16) (ap (isBest ready rank) back ∙ m .2))
+
+  at-distance : (c : ℕ) → distance ready rank c < 16 → isBest ready rank (slotAfter c (distance ready rank c)) ≡ true
+  at-distance c l = lowest-is (λ n. isBest ready rank (slotAfter c n)) 16 l
+
+  -- of the slots of that rank none that is nearer is Ready
+  pub pick-first : (c j : ℕ) → j < 16 → ready j ≡ true → First ready rank c (pick ready rank c)
+  pick-first c j hj r = rw (← pick-at c l) (record {
+    is = best-ready s e;
+    smallest = best-low s e;
+    n = distance ready rank c;
+    here = refl;
+    first = λ m h q.
+        elim (decLt (rank s) (rank (slotAfter c m))) [
+          | yes g ↦ g
+          | no g ↦ clash (best-by (slotAfter c m) q (λ x hx rx. omega (arith, best-low s e x hx rx, g))) (lowest-before (λ n. isBest ready rank (slotAfter c n)) 16 m h)
+        ];
+  })
+    where
+      l : distance ready rank c < 16
+      l = near c j hj r
+
+      s : ℕ
+      s = slotAfter c (distance ready rank c)
+
+      e : isBest ready rank s ≡ true
+      e = at-distance c l
+
   pub pick-is : (c : ℕ) → c < 16 → (j : ℕ) → j < 16 → ready j ≡ true → Rather ready rank c (pick ready rank c) j
   pick-is c hc j hj r = rw (← pick-at c l) (record {
     is = best-ready s e;
@@ -100,13 +141,13 @@ module _ (ready : ℕ → Bool) (rank : ℕ → ℕ) where
       at x hx e = lowest-at (λ n. isBest ready rank (slotAfter c n)) 16 (ahead c x - 1) (ap (isBest ready rank) (after-ahead c x hc hx) ∙ e)
 
       l : d < 16
-      l = let m = some-best j hj r in omega (arith, at (m .0) (m .1) (m .2), rounds c (m .0) hc (m .1))
+      l = near c j hj r
 
       s : ℕ
       s = slotAfter c d
 
       e : isBest ready rank s ≡ true
-      e = lowest-is (λ n. isBest ready rank (slotAfter c n)) 16 l
+      e = at-distance c l
 
       low : (x : ℕ) → x < 16 → ready x ≡ true → rank s ≤ rank x
       low = best-low s e

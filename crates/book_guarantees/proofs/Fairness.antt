@@ -1,10 +1,10 @@
--- The third sentence from a few facts of each call (`Turn`, `Tick`, `Other`), for any rank: exactly one turn, and at most 5 ticks of a slot. By induction
--- on the calls between: a turn between moves current forward in the ring, short of the first task's slot.
+-- The third sentence from a few facts of each call (`Turn`, `Tick`, `Other`), for any rank: exactly one turn, and at most a slice's ticks of a slot. By
+-- induction on the calls between: a turn between moves current forward in the ring, short of the first task's slot.
 use mathlib.Core.Path.{_≡_, refl, sym, ap, _∙_}
 use mathlib.Core.Bool.{Bool, true, false}
 use mathlib.Core.Logic.{_⊎_, inl, inr, _≢_}
 use mathlib.Core.List.{List, [], _∷_, _++_}
-use Prim.Native.Nat.{ℕ, suc, _+_, max, _≤_, _<_}
+use Prim.Native.Nat.{ℕ, zero, suc, _+_, max, _≤_, _<_}
 use native.Mathlib.Decide.{decLt, ℕ-discrete}
 use native.Mathlib.Omega.{arith}
 use lib.Dec.{eqb}
@@ -30,6 +30,11 @@ runs t = inState Running t
 -- occupied, by a task that is Ready or Running
 abbrev pub Live : TaskControl → Type 0
 Live t = (t .occupied ≡ true) × ((t .state ≡ Ready) ⊎ (t .state ≡ Running))
+
+-- the slice of the task in a slot, at most: idle's is 1
+abbrev pub most : ℕ → ℕ
+most zero = 1
+most (suc j) = 5
 
 -- how many ticks a task may have until one of them wants a switch
 unfoldable pub allowance : TaskControl → ℕ
@@ -79,7 +84,7 @@ module _ (rank : Kernel → ℕ → ℕ) where
     pub first : (j : ℕ) → j < 16 → Live (slot k j) → rank k s ≡ rank k j → ahead (current k) s ≤ ahead (current k) j
     pub kept : (j : ℕ) → j < 16 → Live (slot k j) → rank k′ s ≡ rank k s
     pub now : current k′ ≡ s
-    pub slice : budget k′ ≤ 5
+    pub slice : budget k′ ≤ most s
 
   abbrev pub Step : Kernel → Outcome → Kernel → Type 0
   Step k (turn s) k′ = Turn k s k′
@@ -113,18 +118,18 @@ module _ (rank : Kernel → ℕ → ℕ) where
         let q : rank (after e) s ≡ rank (after e) i = omega (arith, t .kept i hi (a .live), t .best i hi (a .live), a .rank-is) in
         (through i (current (after e)) s hi hc (t .inside) ne (t .first i hi (a .live) q), q ∙ a .rank-is)
 
-    -- What a list may still hold, from a kernel with current c: b ticks of c, 5 of a slot that is still to come on the way to i, and none of one
+    -- What a list may still hold, from a kernel with current c: b ticks of c, a slice of a slot that is still to come on the way to i, and none of one
     -- that is past; n j are those that it does hold.
     record Bound (b c : ℕ) (n : ℕ → ℕ) : Type 0 where
       own : n c ≤ b
-      coming : (j : ℕ) → j < 16 → j ≢ c → ahead j i < ahead c i → n j ≤ 5
+      coming : (j : ℕ) → j < 16 → j ≢ c → ahead j i < ahead c i → n j ≤ most j
       gone : (j : ℕ) → j < 16 → j ≢ c → ahead c i ≤ ahead j i → n j ≤ 0
 
     -- the list starts with a turn, or b is enough for the ticks up to the next one
     abbrev Enough : ℕ → Entry → List Entry → Type 0
     Enough b e ms = (budget (after e) ≤ b) ⊎ Next ms
 
-    bound-turn : (b c s : ℕ) (n : ℕ → ℕ) → c < 16 → s < 16 → ahead s i < ahead c i → Bound 5 s n → Bound b c n
+    bound-turn : (b c s : ℕ) (n : ℕ → ℕ) → c < 16 → s < 16 → ahead s i < ahead c i → Bound (most s) s n → Bound b c n
     bound-turn b c s n hc hs l h = record {
       own = let x = h .gone c hc (λ q. apart c q l) (omega arith) in omega arith;
       coming = λ j hj ne m. later j hj (ℕ-discrete j s) (decLt (ahead j i) (ahead s i));
@@ -134,7 +139,7 @@ module _ (rank : Kernel → ℕ → ℕ) where
         apart : (x : ℕ) → x ≡ s → (ahead s i < ahead x i → ⊥)
         apart x q m = let z : ahead s i < ahead s i = rw q at m in omega arith
 
-        later : (j : ℕ) → j < 16 → Dec (j ≡ s) → Dec (ahead j i < ahead s i) → n j ≤ 5
+        later : (j : ℕ) → j < 16 → Dec (j ≡ s) → Dec (ahead j i < ahead s i) → n j ≤ most j
         later j hj (yes q) d = rw q (h .own)
         later j hj (no ne) (yes m) = h .coming j hj ne m
         later j hj (no ne) (no m) = let x = h .gone j hj ne (omega arith) in omega arith
@@ -165,7 +170,7 @@ module _ (rank : Kernel → ℕ → ℕ) where
             → ((b′ c′ : ℕ) → current (after m) ≡ c′ → c′ < 16 → Enough b′ m ms → Bound b′ c′ n) → Bound b c (λ j. tickOf j (after e) v + n j)
         go (turn s) t ne f w g rec =
             let y : ahead s i + ahead c s ≡ ahead c i = rw ec at (forward t (rw ec hc) (al .0) (f s refl) (λ q. ne (ap turn q)) .0) in
-            same (bound-turn b c s n hc (t .inside) (omega (arith, rounds c s hc (t .inside))) (rec 5 s (t .now) (t .inside) (inl (t .slice))))
+            same (bound-turn b c s n hc (t .inside) (omega (arith, rounds c s hc (t .inside))) (rec (most s) s (t .now) (t .inside) (inl (t .slice))))
         go (tick true) t ne f w (inl g) rec = bound-tick b 0 c (after e) true n ec (omega (arith, some-tick (currentTask (after e)))) (rec 0 c (t .stay ∙ ec) hc (inr (w refl)))
         go (tick false) t ne f w (inl g) rec = bound-tick b (budget (after m)) c (after e) false n ec (omega (arith, t .fall refl)) (rec (budget (after m)) c (t .stay ∙ ec) hc (inl (omega arith)))
         go (tick true) t ne f w (inr g) rec = absurd g
@@ -217,17 +222,17 @@ module _ (rank : Kernel → ℕ → ℕ) where
           go other t ne f rec = let x = rec c (t .stay ∙ ec) hc in record { coming = λ m. omega (arith, x .coming m); past = λ m. omega (arith, x .past m) }
 
     -- `one` gives slot i the first turn, ms are the calls between, and last is the kernel after the second turn
-    pub fair : (ms : List Entry) (one : Entry) (last : Kernel) → current (after one) ≡ i → budget (after one) ≤ 5 → Steps (one ∷ ms) → Each (At r i) (one ∷ ms) → Apart ms → NoneSmaller ms → Answered ms
+    pub fair : (ms : List Entry) (one : Entry) (last : Kernel) → current (after one) ≡ i → budget (after one) ≤ most i → Steps (one ∷ ms) → Each (At r i) (one ∷ ms) → Apart ms → NoneSmaller ms → Answered ms
         → Turn (end (after one) ms) i last
-        → ((j : ℕ) → j < 16 → j ≢ i → Each (At r j) (one ∷ ms) → turns j ms ≡ 1) × ((j : ℕ) → j < 16 → ticksWhile j (after one) ms ≤ 5)
+        → ((j : ℕ) → j < 16 → j ≢ i → Each (At r j) (one ∷ ms) → turns j ms ≡ 1) × ((j : ℕ) → j < 16 → ticksWhile j (after one) ms ≤ most j)
     fair ms one last here slice st al nt nb an z = (λ j hj ne bl. counts j hj ne ms last i one here hi st al bl nt nb z .coming (near j hj ne), λ j hj. go j hj (ℕ-discrete j i))
       where
         near : (j : ℕ) → j < 16 → j ≢ i → ahead j i < ahead i i
         near j hj ne = omega (arith, ahead-self i hi, ahead-other j i hj hi ne)
 
-        b : Bound 5 i (λ j. ticksWhile j (after one) ms)
-        b = bounds ms 5 i one here hi st al nt nb an (inl slice)
+        b : Bound (most i) i (λ j. ticksWhile j (after one) ms)
+        b = bounds ms (most i) i one here hi st al nt nb an (inl slice)
 
-        go : (j : ℕ) → j < 16 → Dec (j ≡ i) → ticksWhile j (after one) ms ≤ 5
+        go : (j : ℕ) → j < 16 → Dec (j ≡ i) → ticksWhile j (after one) ms ≤ most j
         go j hj (yes q) = rw q (b .own)
         go j hj (no ne) = b .coming j hj ne (near j hj ne)

@@ -19,22 +19,22 @@ use Rattle.kernel.specs.declared.control.TaskControl.{TaskControl}
 use Rattle.kernel.specs.declared.control.TaskState.the-variants.{Ready}
 use Rattle.kernel.specs.declared.scheduler.Kernel.{Kernel}
 use Rattle.kernel.specs.Update.{withRemaining}
-use Rattle.kernel.specs.Control.{stateNumber, holdsTask, hasLimit, blankSlot}
+use Rattle.kernel.specs.Control.{stateNumber, holdsTask, hasLimit, blankSlot, newTask}
 use Rattle.kernel.specs.Kernel.{slot, charge, chargeSum, at, current, currentTask, freshKernel}
 use Rattle.kernel.specs.Rank.{rank}
-use Rattle.kernel.specs.Scheduler.{isReady, nextTask, isDue, isLimitDue, woken, spent, clocked, advanced, currentRuns, sliced, wants, wantsSwitch, contextSaved, saveContext}
+use Rattle.kernel.specs.Scheduler.{isReady, nextTask, nextId, lowestEmpty, isDue, isLimitDue, woken, spent, clocked, advanced, currentRuns, sliced, wants, wantsSwitch, contextSaved, saveContext}
 use Rattle.kernel.specs.Scheduler
 use Rattle.kernel.specs.Calls.{Kind, plain, ticking, initNumber}
 use Rattle.kernel.proofs.Pick.{pick-lt}
 use Rattle.kernel.proofs.Rank.{rank-saved, rank-dispatched}
 use Rattle.kernel.proofs.Unlimited.{woken-ahead}
 use Rattle.kernel.proofs.Walk.{walked-beside, walked-before}
-use Rattle.kernel.proofs.Changes.{same, state, passed, charged, Changes, carry, SlotChange, by}
+use Rattle.kernel.proofs.Changes.{same, state, passed, charged, Change, task, begins, clock, permits, flag, handoff, owner, added, reaped, begun, turned, owner-each, first-empty, Changes, carry, SlotChange, by}
 use Rattle.kernel.proofs.Owned.{all-default}
 use Rattle.book_guarantees.proofs.BestFirst.{clash, Rather, pick-is}
-use Rattle.book_guarantees.proofs.Fairness.{runs, Live, allowance, budget, some-tick, Tick, Other, Turn}
+use Rattle.book_guarantees.proofs.Fairness.{runs, Live, most, allowance, budget, some-tick, Tick, Other, Turn}
 use Rattle.book_guarantees.proofs.Account.{Account, fresh-account, change-account}
-use Rattle.book_guarantees.proofs.Kept.{SliceFits, IsOther, TaskKept, task-kept, each-kept, slices-kept, kept, NoLonger, no-longer}
+use Rattle.book_guarantees.proofs.Kept.{SliceFits, IsOther, TaskKept, task-kept, reloaded-kept, each-kept, kept, NoLonger, no-longer}
 
 -- ---- the invariant
 
@@ -42,27 +42,59 @@ use Rattle.book_guarantees.proofs.Kept.{SliceFits, IsOther, TaskKept, t
 abbrev OnlyCurrent : Kernel → Type 0
 OnlyCurrent k = (j : ℕ) → runs (slot k j) ≡ true → (j ≡ current k) × (k .started ≡ true)
 
+-- slices are at most 5, and idle's 1
+abbrev Slices : Kernel → Type 0
+Slices k = (j : ℕ) → SliceFits (most j) (slot k j)
+
 pub record Invariant (k : Kernel) : Type 0 where
   pub account : Account k
-  pub slices : (j : ℕ) → SliceFits (slot k j)
+  pub slices : Slices k
   pub running : OnlyCurrent k
 
+one-slot : (k : Kernel) → Slices k → (i : ℕ) (u : TaskControl) → SliceFits (most i) u → (j : ℕ) → SliceFits (most j) (getD (set (k .tasks) i u) j blankSlot)
+one-slot k f i u h = set-each (λ j t. SliceFits (most j) t) blankSlot (k .tasks) i u h f
+
+-- no task is added in idle's slot
+new-fits : (j : ℕ) (t : TaskControl) → (j ≡ 0 → ⊥) → SliceFits 5 t → SliceFits (most j) t
+new-fits zero t n f = absurd (n refl)
+new-fits (suc j) t n f = f
+
+change-slices : {g : Kind} (k k′ : Kernel) → Change g k k′ → Account k → Slices k → Slices k′
+unfolding Scheduler.add
+change-slices k k′ (task i u h c) a f = one-slot k f i u (task-kept c .slices (most i) (f i))
+change-slices k k′ (begins o n h b g p s) a f = one-slot k f _ _ (f (current k))
+change-slices k k′ (clock l b) a f = f
+change-slices k k′ (permits s n q h c) a f = f
+change-slices k k′ (flag v n q h c) a f = f
+change-slices k k′ (handoff m h q l c) a f = f
+change-slices k k′ (owner m l from to h q r d c) a f = owner-each Slices (λ x i n _ e. one-slot x e i _ (e i)) from to k f
+change-slices k k′ (added p r free region) a f = one-slot k f _ _ (new-fits (lowestEmpty k) (newTask (nextId k) p r) (λ e. clash (a .sound .is .idle) (rw e at (first-empty k free))) (omega arith))
+change-slices k k′ (reaped i h idle running on) a f = one-slot k f i blankSlot (omega arith)
+change-slices k k′ (begun x h o) a f = one-slot k f _ _ (f (nextTask k))
+change-slices k k′ (turned x h o) a f = one-slot k f _ _ (reloaded-kept _ .2 _ (f (nextTask k)))
+
 pub invariant-kept : {g : Kind} {k k′ : Kernel} → Changes g k k′ → Invariant k → OnlyCurrent k′ → Invariant k′
-invariant-kept {g} cs i r = record { account = carry Account (change-account g) cs (i .account); slices = λ j. slices-kept cs j (i .slices j); running = r }
+invariant-kept {g} cs i r =
+    let c = carry (λ x. Account x × Slices x) (λ x y d p. (change-account g x y d (p .0), change-slices x y d (p .0) (p .1))) cs (i .account, i .slices) in
+    record { account = c .0; slices = c .1; running = r }
 
 pub fresh-invariant : (hz words : ℕ) → initNumber hz words ≡ 0 → Invariant (freshKernel hz words)
 unfolding freshKernel
 fresh-invariant hz words e = record { account = fresh-account hz words e; slices = λ j. slots j .0; running = λ j r. clash r (slots j .1) }
   where
-    slots : (j : ℕ) → SliceFits (slot (freshKernel hz words) j) × (runs (slot (freshKernel hz words) j) ≡ false)
+    slots : (j : ℕ) → SliceFits (most j) (slot (freshKernel hz words) j) × (runs (slot (freshKernel hz words) j) ≡ false)
     slots zero = (omega arith, refl)
     slots (suc j) = rw (all-default blankSlot 15 j) (omega arith, refl)
 
 -- ---- how many ticks a task may have
 
-pub five-ticks : {k : Kernel} → Invariant k → budget k ≤ 5
+some-slice : (j : ℕ) → 1 ≤ most j
+some-slice zero = omega arith
+some-slice (suc j) = omega arith
+
+pub slice-ticks : {k : Kernel} → Invariant k → budget k ≤ most (current k)
 unfolding allowance
-five-ticks {k} i = either (λ n. n ≤ 5) (runs (currentTask k)) (λ _. omega (arith, i .slices (current k) .1)) (λ _. omega arith)
+slice-ticks {k} i = either (λ n. n ≤ most (current k)) (runs (currentTask k)) (λ _. omega (arith, i .slices (current k) .1, some-slice (current k))) (λ _. some-slice (current k))
 
 while-running : (t : TaskControl) → runs t ≡ true → allowance t ≡ max 1 (t .«remaining_slice»)
 unfolding allowance
@@ -180,9 +212,12 @@ module _ (k : Kernel) where
     abbrev t : TaskControl
     t = currentTask (advanced k)
 
-    advanced-kept : TaskKept plain (currentTask k) t
+    walk-current : t ≡ woken (k .«tick_count» + 1) (currentTask k)
     unfolding advanced clocked
-    advanced-kept = rw (ap (λ (x : Kernel). current x) (walked-beside (k .«tick_count» + 1) 16 k .form), walked-before (k .«tick_count» + 1) 16 k (current k) (i .account .sound .is .current-slot)) (woken-kept (k .«tick_count» + 1) (currentTask k))
+    walk-current = rw (ap (λ (x : Kernel). current x) (walked-beside (k .«tick_count» + 1) 16 k .form)) (walked-before (k .«tick_count» + 1) 16 k (current k) (i .account .sound .is .current-slot))
+
+    advanced-kept : TaskKept plain (currentTask k) t
+    advanced-kept = rw walk-current (woken-kept (k .«tick_count» + 1) (currentTask k))
 
     -- it runs on, and its slice does not end
     unwanted : wantsSwitch k ≡ false → (runs t ≡ true) × (eqb (t .«remaining_slice» - 1) 0 ≡ false)
@@ -198,6 +233,10 @@ module _ (k : Kernel) where
     tick-current r =
         ap currentTask (sym (taken (advanced k .started && runs t) (at (current (advanced k)) spent (advanced k)) (advanced k) _ (ap (λ (b : Bool). b && runs t) (advanced-still .1 ∙ on) ∙ r) refl))
         ∙ getD-set-same (advanced k .tasks) (current (advanced k)) (spent t) blankSlot (omega (arith, advanced-size, advanced-still .0, i .account .sound .owned .slots, i .account .sound .is .current-slot))
+
+    -- a task that the walk leaves as it was, and that runs, has one tick less
+    pub tick-spent : runs (currentTask k) ≡ true → currentTask k ≡ woken (k .«tick_count» + 1) (currentTask k) → slot (Scheduler.tick k) (current k) ≡ spent (currentTask k)
+    tick-spent r w = let same : t ≡ currentTask k = walk-current ∙ sym w in ap (slot (Scheduler.tick k)) (sym (still .0)) ∙ (tick-current (ap runs same ∙ r) ∙ ap spent same)
 
     pub tick-tick : Tick k (wantsSwitch k) (Scheduler.tick k)
     tick-tick = record { stay = still .0; fall = λ e. let f = unwanted e in rw (tick-current (f .0)) (spent-falls (currentTask k) t advanced-kept (f .0) (f .1)) }
@@ -247,7 +286,7 @@ module _ (sp : ℕ) (k : Kernel) (i : Invariant k) where
     first = λ j h v e. rather j h v .first (omega (arith, e, rank-saved sp k j, rank-saved sp k s));
     kept = λ j h v. rank-dispatched s (saveContext sp k) (rather j h v .is) s ∙ rank-saved sp k s;
     now = refl;
-    slice = five-ticks i′;
+    slice = slice-ticks i′;
   }
     where
       s : ℕ

@@ -1,5 +1,5 @@
--- What an accepted call keeps, from the changes that it is made of. Every call: slices within 5, and the priority of a task that stays present. A call
--- that gives no turn and no tick: current, started, tick_count, and the charge of a task that stays present; and no task comes to run, or to have more ticks left.
+-- What an accepted call keeps, from the changes that it is made of. Every call: the priority of a task that stays present. A call that gives no turn and no
+-- tick: current, started, tick_count, and the charge of a task that stays present; and no task comes to run, or to have more ticks left.
 use mathlib.Core.Path.{_≡_, refl, sym, ap, _∙_}
 use mathlib.Core.Bool.{Bool, true, false}
 use Prim.Native.Nat.{ℕ, _≤_}
@@ -20,8 +20,9 @@ use Rattle.kernel.proofs.Changes.{TaskChange, same, state, asleep, ended, waite
 use Rattle.book_guarantees.proofs.BestFirst.{clash}
 use Rattle.book_guarantees.proofs.Fairness.{runs}
 
-abbrev pub SliceFits : TaskControl → Type 0
-SliceFits t = (t .«time_slice» ≤ 5) × (t .«remaining_slice» ≤ 5)
+-- the slice, and what remains of it, within n
+abbrev pub SliceFits : ℕ → TaskControl → Type 0
+SliceFits n t = (t .«time_slice» ≤ n) × (t .«remaining_slice» ≤ n)
 
 -- a call of this kind gives no turn and no tick
 abbrev pub IsOther : Kind → Type 0
@@ -38,12 +39,12 @@ IsOther plain = Unit {0}
 pub record TaskKept (g : Kind) (t u : TaskControl) : Type 0 where
   pub occupied : u .occupied ≡ t .occupied
   pub priority : u .priority ≡ t .priority
-  pub slices : SliceFits t → SliceFits u
+  pub slices : (n : ℕ) → SliceFits n t → SliceFits n u
   pub running : runs u ≡ true → runs t ≡ true
   pub remaining : IsOther g → u .«remaining_slice» ≤ t .«remaining_slice»
 
 less-left : {g : Kind} {t u : TaskControl} → u .occupied ≡ t .occupied → u .priority ≡ t .priority → u .«time_slice» ≡ t .«time_slice» → u .«remaining_slice» ≤ t .«remaining_slice» → (runs u ≡ true → runs t ≡ true) → TaskKept g t u
-less-left o p s r e = record { occupied = o; priority = p; slices = λ f. (omega (arith, f .0), omega (arith, f .1)); running = e; remaining = λ _. r }
+less-left o p s r e = record { occupied = o; priority = p; slices = λ n f. (omega (arith, f .0), omega (arith, f .1)); running = e; remaining = λ _. r }
 
 pub task-kept : {g : Kind} {t u : TaskControl} → TaskChange g t u → TaskKept g t u
 unfolding contextSaved
@@ -55,30 +56,18 @@ task-kept (waiter a) = less-left refl refl refl (le-refl _) (λ e. e)
 task-kept (answered r) = less-left refl refl refl (le-refl _) (λ e. e)
 task-kept passed = less-left refl refl refl (le-refl _) (λ e. clash e refl)
 task-kept (less n h) = less-left refl refl refl h (λ e. e)
-task-kept full = record { occupied = refl; priority = refl; slices = λ f. (f .0, f .0); running = λ e. e; remaining = λ x. absurd x }
+task-kept full = record { occupied = refl; priority = refl; slices = λ n f. (f .0, f .0); running = λ e. e; remaining = λ x. absurd x }
 task-kept (saved {t = t} sp) = either (TaskKept switching t) (runs t) (λ _. less-left refl refl refl (le-refl _) (λ e. clash e refl)) (λ _. less-left refl refl refl (le-refl _) (λ e. e))
 
-pub reloaded-kept : (t : TaskControl) → ((reloaded t) .occupied ≡ t .occupied) × ((reloaded t) .priority ≡ t .priority) × (SliceFits t → SliceFits (reloaded t))
+pub reloaded-kept : (t : TaskControl) → ((reloaded t) .occupied ≡ t .occupied) × ((reloaded t) .priority ≡ t .priority) × ((n : ℕ) → SliceFits n t → SliceFits n (reloaded t))
 unfolding reloaded
-reloaded-kept t = either (λ (u : TaskControl). (u .occupied ≡ t .occupied) × (u .priority ≡ t .priority) × (SliceFits t → SliceFits u)) (eqb (t .«remaining_slice») 0) (λ _. (refl, refl, λ f. (f .0, f .0))) (λ _. (refl, refl, λ f. f))
+reloaded-kept t = either (λ (u : TaskControl). (u .occupied ≡ t .occupied) × (u .priority ≡ t .priority) × ((n : ℕ) → SliceFits n t → SliceFits n u)) (eqb (t .«remaining_slice») 0) (λ _. (refl, refl, λ n f. (f .0, f .0))) (λ _. (refl, refl, λ n f. f))
 
 -- ---- slot by slot, over all the changes of a call
 
 pub each-kept : {g : Kind} (T : TaskControl → TaskControl → Type 0) → ((t : TaskControl) → T t t) → ((t u v : TaskControl) → T t u → T u v → T t v) → ((t u : TaskControl) → SlotChange g t u → T t u)
     → {k k′ : Kernel} → Changes g k k′ → (j : ℕ) → T (slot k j) (slot k′ j)
 each-kept T r t f cs j = fold (λ k k′. T (slot k j) (slot k′ j)) (λ k. r _) (λ _ _ _ p q. t _ _ _ p q) (λ _ _ d. each-slot T r t f d j) cs
-
-slot-fits : {g : Kind} (t u : TaskControl) → SlotChange g t u → SliceFits t → SliceFits u
-slot-fits t u (by c) f = task-kept c .slices f
-slot-fits t u (limited o n b g) f = f
-slot-fits t u (counted n) f = f
-slot-fits t u (new a p r e) f = omega arith
-slot-fits t u (cleared e) f = omega arith
-slot-fits t u run-first f = f
-slot-fits t u run-next f = reloaded-kept t .2 f
-
-pub slices-kept : {g : Kind} {k k′ : Kernel} → Changes g k k′ → (j : ℕ) → SliceFits (slot k j) → SliceFits (slot k′ j)
-slices-kept = each-kept (λ t u. SliceFits t → SliceFits u) (λ _ f. f) (λ _ _ _ p q f. q (p f)) slot-fits
 
 -- A reap empties slots and fills none, any other call fills slots and empties none: so a task that is there at both ends, o and p, was there all along, and
 -- what each change keeps of it, Q, is kept.

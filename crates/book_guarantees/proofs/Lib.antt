@@ -7,7 +7,10 @@ pub mod Account
 pub mod Invariant
 pub mod TurnGuarantee
 pub mod Charges
+pub mod Signaled
+pub mod Queues
 pub mod Wakings
+pub mod Ticks
 pub mod Limits
 pub mod Milliseconds
 pub mod Ranks

@@ -7,16 +7,17 @@ use mathlib.Core.Bool.{Bool, true, false, false≢true}
 use mathlib.Core.List.{List, [], _∷_}
 use mathlib.Core.Logic.{_⊎_, inl, inr, ⊎-elim}
 use lib.Dec.{eqb}
-use lib.ListN.{length, getD, set, length-set}
+use lib.ListN.{length, getD, set, length-set, List·getD-eq-default}
 use lib.Seq.{getD-set-same}
 use borrow.Author.Tests.{eqb-true, eqb-false, eq-eqb, ltb-true, le-leb, lt-leb}
 use Rattle.base.specs.Choice.{if_then_else_}
 use Rattle.base.proofs.Choices.{and-left, and-right, either}
-use Rattle.base.proofs.Loops.{set-each, tabulate-length}
+use Rattle.base.proofs.Loops.{set-each}
 use Rattle.kernel.specs.declared.control.TaskId.{TaskId}
 use Rattle.kernel.specs.declared.control.LimitObject.{LimitObject}
 use Rattle.kernel.specs.declared.control.LimitObject.the-variants.{NoLimit, AtSemaphore, AtEvent}
-use Rattle.kernel.specs.declared.control.TaskState.the-variants.{Running, Blocked}
+use Rattle.kernel.specs.declared.control.TaskState.{TaskState}
+use Rattle.kernel.specs.declared.control.TaskState.the-variants.{Running, Blocked, Sleeping}
 use Rattle.kernel.specs.declared.control.TaskControl.{TaskControl}
 use Rattle.kernel.specs.declared.wait_queue.WaitQueue.{WaitQueue}
 use Rattle.kernel.specs.declared.semaphore.Semaphore.{Semaphore}
@@ -24,16 +25,16 @@ use Rattle.kernel.specs.declared.event.Event.{Event}
 use Rattle.kernel.specs.declared.scheduler.Kernel.{Kernel}
 use Rattle.kernel.specs.declared.scheduler.Value.the-variants.{YesNo}
 use Rattle.kernel.specs.declared.scheduler.Answer.{Answer}
-use Rattle.kernel.specs.Control.{inState, holdsTask, isLimit, hasLimit, objectFits, entered, expired, blankSlot}
+use Rattle.kernel.specs.Control.{stateNumber, inState, holdsTask, isLimit, hasLimit, objectFits, entered, expired, blankSlot}
 use Rattle.kernel.specs.Update.{withLimit}
-use Rattle.kernel.specs.WaitQueue.{contains, isFull, pushed, enqueued, placeWithout, without, isEmpty, head, popped, removed}
+use Rattle.kernel.specs.WaitQueue.{contains, head}
 use Rattle.kernel.specs.Kernel.{slot, current, semaphore, event, freshKernel}
-use Rattle.kernel.specs.Scheduler.{contextSaved, limited, isDue, isLimitDue, woken}
+use Rattle.kernel.specs.Scheduler.{contextSaved, limited, isDue, isLimitDue, woken, spent, wantsSwitch}
 use Rattle.kernel.specs.Scheduler
 use Rattle.kernel.specs.Semaphore
 use Rattle.kernel.specs.Semaphore.{hasPermit}
 use Rattle.kernel.specs.Event
-use Rattle.kernel.specs.Calls.{Call, tick, acquire-within, event-wait-within, Kind, number, value, valueNumber, effect, step, Reached, called}
+use Rattle.kernel.specs.Calls.{Call, tick, acquire-within, event-wait-within, Kind, number, value, valueNumber, effect, accepted, step, Reached, called}
 use Rattle.kernel.proofs.Queue.{enqueued-keeps, popped-keeps, removed-keeps}
 use Rattle.kernel.proofs.Accepted.{accepted-at}
 use Rattle.kernel.proofs.Changes.{TaskChange, same, state, asleep, ended, waiter, answered, passed, less, full, saved, QueueChange, still, joined, left, out, Unlimited, absent, present, queueIn, owner-each, Change, task, begins, clock, permits, flag, handoff, owner, added, reaped, begun, turned}
@@ -41,9 +42,12 @@ use Rattle.kernel.proofs.Unlimited.{inside}
 use Rattle.kernel.proofs.Owned.{Owned, Sound, all-default, fresh-sound, change-sound}
 use Rattle.kernel.proofs.Reached.{reached-by}
 use Rattle.book_guarantees.specs.Lists.{Entry, after, Each, Returned, end, Outcome, turn, tick as ticked, other, outcomeOf, outcome, isStart, acceptedTick, acceptedTicks}
-use Rattle.book_guarantees.specs.Limits.{lastTick, Limited, Waiting, AtTick, WithLimit, acquiring, waiting, Keeps, EndsWithin, LimitGuarantee}
+use Rattle.book_guarantees.specs.Limits.{lastTick, Limited, Waiting, queueOf, Ends, Without, AtTick, WithLimit, acquiring, waiting, Keeps, EndsWithin, LimitGuarantee}
+use Rattle.book_guarantees.proofs.BestFirst.{clash}
 use Rattle.book_guarantees.proofs.Fairness.{runs}
-use Rattle.book_guarantees.proofs.Invariant.{tick-slot}
+use Rattle.book_guarantees.proofs.Invariant.{tick-slot, tick-spent}
+use Rattle.book_guarantees.proofs.Queues.{AllFit, fresh-fits, change-fits}
+use Rattle.book_guarantees.proofs.Ticks.{woken-still, not-limited, not-sleeping, sleeper-due, woken-sleeper, woken-mark, limit-due, not-running, tick-mutexes, tick-queues, tick-mark, limit-wants}
 use Rattle.book_guarantees.proofs.TurnGuarantee.{Fact, entry-fact, reached-invariant}
 use Rattle.book_guarantees.proofs.Wakings.{is-blocked, answers, accepts, of-step, told}
 
@@ -58,12 +62,11 @@ Holds ss es now t = t .occupied ≡ true → hasLimit t ≡ true → (contains (
 
 record Kept (k : Kernel) : Type 0 where
   tick : k .«tick_count» ≤ lastTick
-  semaphore-ids : (s : ℕ) → s < 4 → length (semaphore k s .waiters .ids) ≡ 8
-  event-ids : (e : ℕ) → e < 4 → length (event k e .waiters .ids) ≡ 8
   holds : (i : ℕ) → i < 16 → Holds (k .semaphores) (k .events) (k .«tick_count») (slot k i)
 
 record Queued (k : Kernel) : Type 0 where
   sound : Sound k
+  queues : AllFit k
   limits : Kept k
 
 -- ---- tasks
@@ -82,13 +85,6 @@ task-holds ss es now full h = h
 task-holds ss es now (saved {t = t} sp) h = either (Holds ss es now) (inState Running t) (λ _ _ l. absurd (false≢true l)) (λ _. h)
 
 -- ---- queues
-
-queue-sized : {P : TaskId → Type 0} {a : TaskId} {q r : WaitQueue} → QueueChange P a q r → length (q .ids) ≡ 8 → length (r .ids) ≡ 8
-unfolding enqueued pushed popped removed without
-queue-sized still h = h
-queue-sized {a = a} (joined {q = q}) h = either (λ (x : WaitQueue). length (x .ids) ≡ 8) (contains q a) (λ _. h) (λ _. either (λ (x : WaitQueue). length (x .ids) ≡ 8) (isFull q) (λ _. h) (λ _. length-set (q .ids) (q .len) a ∙ h))
-queue-sized (left {r = r} p c) h = either (λ (x : WaitQueue). length (x .ids) ≡ 8) (isEmpty r) (λ _. queue-sized c h) (λ _. tabulate-length (placeWithout r 0) 8)
-queue-sized (out {q = q} b p) h = either (λ (x : WaitQueue). length (x .ids) ≡ 8) (contains q b) (λ _. tabulate-length (placeWithout q _) 8) (λ _. h)
 
 -- whoever has a limit is not among those who leave
 not-among : (k : Kernel) → Owned k → (i : ℕ) → i < 16 → slot k i .occupied ≡ true → hasLimit (slot k i) ≡ true → (b : TaskId) → Unlimited k b → b .0 ≡ slot k i .id .0 → ⊥
@@ -115,10 +111,10 @@ in-events (AtSemaphore s) ss es v x b f e = e
 in-events (AtEvent r) ss es v x b f e = set-each (λ j (y : Event). contains (queueIn (AtEvent j) ss es) b ≡ true → contains (y .waiters) b ≡ true) _ es v x f (λ _ h. h) r e
 
 -- the queue of an object that is there has eight places
-sized-at : (k : Kernel) → Kept k → (o : LimitObject) → objectFits o ≡ true → length (queueIn o (k .semaphores) (k .events) .ids) ≡ 8
+sized-at : (k : Kernel) → AllFit k → (o : LimitObject) → objectFits o ≡ true → length (queueIn o (k .semaphores) (k .events) .ids) ≡ 8
 sized-at k q NoLimit f = refl
-sized-at k q (AtSemaphore s) f = q .semaphore-ids s (ltb-true _ _ f)
-sized-at k q (AtEvent e) f = q .event-ids e (ltb-true _ _ f)
+sized-at k q (AtSemaphore s) f = q .semaphores s (ltb-true _ _ f) .places
+sized-at k q (AtEvent e) f = q .events e (ltb-true _ _ f) .places
 
 -- ---- each change
 
@@ -134,66 +130,46 @@ one-slot k q i u f = set-each (λ j t. j < 16 → Holds (k .semaphores) (k .even
 
 -- only tasks are altered
 tasks-kept : (k k′ : Kernel) → k′ .«tick_count» ≡ k .«tick_count» → k′ .semaphores ≡ k .semaphores → k′ .events ≡ k .events → ((j : ℕ) → j < 16 → Holds (k .semaphores) (k .events) (k .«tick_count») (slot k′ j)) → Kept k → Kept k′
-tasks-kept k k′ t s e h q = record { tick = rw t (q .tick); semaphore-ids = rw s (q .semaphore-ids); event-ids = rw e (q .event-ids); holds = rw (t, s, e) h }
+tasks-kept k k′ t s e h q = record { tick = rw t (q .tick); holds = rw (t, s, e) h }
 
-change-kept : (g : Kind) (k k′ : Kernel) → Change g k k′ → Sound k → Kept k → Kept k′
+change-kept : (g : Kind) (k k′ : Kernel) → Change g k k′ → Sound k → AllFit k → Kept k → Kept k′
 unfolding Scheduler.add
-change-kept g k k′ (task i u h c) w q = tasks-kept k k′ refl refl refl (one-slot k q i u (λ l. task-holds _ _ _ c (q .holds i l))) q
-change-kept g k k′ (begins o n h b f p s) w q =
-    tasks-kept k k′ refl refl refl (one-slot k q (current k) _ (λ _ _ _. (s (sized-at k q o f), begins-ahead (k .«tick_count») n (q .tick) p))) q
-change-kept g k k′ (clock l a) w q = record {
+change-kept g k k′ (task i u h c) w a q = tasks-kept k k′ refl refl refl (one-slot k q i u (λ l. task-holds _ _ _ c (q .holds i l))) q
+change-kept g k k′ (begins o n h b f p s) w a q =
+    tasks-kept k k′ refl refl refl (one-slot k q (current k) _ (λ _ _ _. (s (sized-at k a o f), begins-ahead (k .«tick_count») n (q .tick) p))) q
+change-kept g k k′ (clock l b) w a q = record {
   tick = omega (arith, q .tick, l);
-  semaphore-ids = q .semaphore-ids;
-  event-ids = q .event-ids;
-  holds = λ i h o m. (q .holds i h o m .0, inl (a i h o m));
+  holds = λ i h o m. (q .holds i h o m .0, inl (b i h o m));
 }
-change-kept g k k′ (permits s n r h c) w q = record {
+change-kept g k k′ (permits s n r h c) w a q = record {
   tick = q .tick;
-  semaphore-ids = set-each (λ j (y : Semaphore). j < 4 → length (y .waiters .ids) ≡ 8) _ (k .semaphores) s _ (λ l. queue-sized c (q .semaphore-ids s l)) (q .semaphore-ids);
-  event-ids = q .event-ids;
   holds = λ i l o m. (in-semaphores (slot k i .«limit_object») (k .semaphores) (k .events) s _ (slot k i .id) (queue-keeps (slot k i .id) (not-among k (w .owned) i l o m) c) (q .holds i l o m .0), q .holds i l o m .1);
 }
-change-kept g k k′ (flag v n r h c) w q = record {
+change-kept g k k′ (flag v n r h c) w a q = record {
   tick = q .tick;
-  semaphore-ids = q .semaphore-ids;
-  event-ids = set-each (λ j (y : Event). j < 4 → length (y .waiters .ids) ≡ 8) _ (k .events) v _ (λ l. queue-sized c (q .event-ids v l)) (q .event-ids);
   holds = λ i l o m. (in-events (slot k i .«limit_object») (k .semaphores) (k .events) v _ (slot k i .id) (queue-keeps (slot k i .id) (not-among k (w .owned) i l o m) c) (q .holds i l o m .0), q .holds i l o m .1);
 }
-change-kept g k k′ (handoff m h r l c) w q = tasks-kept k k′ refl refl refl (q .holds) q
-change-kept g k k′ (owner m x from to h r l d c) w q =
+change-kept g k k′ (handoff m h r l c) w a q = tasks-kept k k′ refl refl refl (q .holds) q
+change-kept g k k′ (owner m x from to h r l d c) w a q =
     tasks-kept k k′ refl refl refl
     (owner-each (λ y. (j : ℕ) → j < 16 → Holds (k .semaphores) (k .events) (k .«tick_count») (slot y j)) (λ y i n _ f. set-each (λ j t. j < 16 → Holds (k .semaphores) (k .events) (k .«tick_count») t) blankSlot (y .tasks) i _ (f i) f) from to k (q .holds)) q
-change-kept g k k′ (added p r free region) w q = tasks-kept k k′ refl refl refl (one-slot k q _ _ (λ _ _ l. absurd (false≢true l))) q
-change-kept g k k′ (reaped x h idle running on) w q = tasks-kept k k′ refl refl refl (one-slot k q x blankSlot (λ _ _ l. absurd (false≢true l))) q
-change-kept g k k′ (begun x h o) w q = tasks-kept k k′ refl refl refl (one-slot k q _ _ (λ _ _ l. absurd (false≢true l))) q
-change-kept g k k′ (turned x h o) w q = tasks-kept k k′ refl refl refl (one-slot k q _ _ (λ _ _ l. absurd (false≢true l))) q
+change-kept g k k′ (added p r free region) w a q = tasks-kept k k′ refl refl refl (one-slot k q _ _ (λ _ _ l. absurd (false≢true l))) q
+change-kept g k k′ (reaped x h idle running on) w a q = tasks-kept k k′ refl refl refl (one-slot k q x blankSlot (λ _ _ l. absurd (false≢true l))) q
+change-kept g k k′ (begun x h o) w a q = tasks-kept k k′ refl refl refl (one-slot k q _ _ (λ _ _ l. absurd (false≢true l))) q
+change-kept g k k′ (turned x h o) w a q = tasks-kept k k′ refl refl refl (one-slot k q _ _ (λ _ _ l. absurd (false≢true l))) q
 
 -- ---- from fresh
 
 fresh-kept : (hz words : ℕ) → Kept (freshKernel hz words)
 unfolding freshKernel
-fresh-kept hz words = record { tick = omega arith; semaphore-ids = four-semaphores; event-ids = four-events; holds = λ i h o l. absurd (false≢true (sym (no-limit i) ∙ l)) }
+fresh-kept hz words = record { tick = omega arith; holds = λ i h o l. absurd (false≢true (sym (no-limit i) ∙ l)) }
   where
-    four-semaphores : (s : ℕ) → s < 4 → length (semaphore (freshKernel hz words) s .waiters .ids) ≡ 8
-    four-semaphores zero h = refl
-    four-semaphores (suc zero) h = refl
-    four-semaphores (suc (suc zero)) h = refl
-    four-semaphores (suc (suc (suc zero))) h = refl
-    four-semaphores (suc (suc (suc (suc s)))) h = absurd (omega arith)
-
-    four-events : (e : ℕ) → e < 4 → length (event (freshKernel hz words) e .waiters .ids) ≡ 8
-    four-events zero h = refl
-    four-events (suc zero) h = refl
-    four-events (suc (suc zero)) h = refl
-    four-events (suc (suc (suc zero))) h = refl
-    four-events (suc (suc (suc (suc e)))) h = absurd (omega arith)
-
     no-limit : (i : ℕ) → hasLimit (slot (freshKernel hz words) i) ≡ false
     no-limit zero = refl
     no-limit (suc i) = ap hasLimit (all-default blankSlot 15 i)
 
 queued : {k : Kernel} → Reached k → Queued k
-queued = reached-by Queued (λ hz words e. record { sound = fresh-sound hz words e; limits = fresh-kept hz words }) (λ g k k′ c q. record { sound = change-sound g k k′ c (q .sound); limits = change-kept g k k′ c (q .sound) (q .limits) })
+queued = reached-by Queued (λ hz words e. record { sound = fresh-sound hz words e; queues = fresh-fits hz words e; limits = fresh-kept hz words }) (λ g k k′ c q. record { sound = change-sound g k k′ c (q .sound); queues = change-fits g k k′ c (q .queues); limits = change-kept g k k′ c (q .sound) (q .queues) (q .limits) })
 
 -- ---- the statements
 
@@ -228,23 +204,66 @@ waits-on now t o l b d = rw (o, l, lt-leb (t .«limit_tick») now d, b)
 fact : {k : Kernel} (e : Entry) → Reached k → e .answer ≡ step k (e .call) → Fact k (isStart e) (outcome e) (after e)
 fact {k} e r s = entry-fact k e (reached-invariant r) s
 
+-- the answer to an accepted tick
+ticks : (P : Answer → Type 0) (k : Kernel) → step k tick .number ≡ 0 → P (accepted (YesNo (wantsSwitch k)) (Scheduler.tick k)) → P (step k tick)
+unfolding value effect
+ticks P k z p = of-step P k tick (accepts k tick z) p
+
 ticked-ahead : (k : Kernel) → Reached k → step k tick .number ≡ 0 → (i : ℕ) → Limited (step k tick .kernel) i → step k tick .kernel .«tick_count» < slot (step k tick .kernel) i .«limit_tick»
-unfolding outcome outcomeOf effect value if_then_else_
+unfolding outcome outcomeOf if_then_else_
 ticked-ahead k r z i l =
-    let was = of-step (λ (a : Answer). outcome (record { call = tick; answer = a }) ≡ ticked (eqb (valueNumber (value k tick)) 1)) k tick (accepts k tick z) refl in
+    let was = ticks (λ (a : Answer). outcome (record { call = tick; answer = a }) ≡ ticked (eqb (valueNumber (YesNo (wantsSwitch k))) 1)) k z refl in
     fact (record { call = tick; answer = step k tick }) r refl .ahead _ was i (sixteen (called tick r) i (l .present)) (l .present) (l .limit)
 
-at-tick : (k : Kernel) → Reached k → step k tick .number ≡ 0 → AtTick k (step k tick .kernel)
-unfolding effect
-at-tick k r z =
-    let e = accepts k tick z in
-    let now = k .«tick_count» + 1 in
-    let to : (i : ℕ) (u : TaskControl) → Limited k i → woken now (slot k i) ≡ u → runs u ≡ false → slot (step k tick .kernel) i ≡ u = λ i u l w n. of-step (λ (a : Answer). slot (a .kernel) i ≡ u) k tick e (tick-slot k i (sixteen r i (l .present)) (ap runs w ∙ n) ∙ w) in
-    record {
-      due = λ i l d. to i _ l (waits-due now (slot k i) (l .present) (l .limit) d) refl;
-      not-due = λ i l d. let b = kept k r i l .blocked in to i _ l (waits-on now (slot k i) (l .present) (l .limit) b d) (rw b);
-      ahead = ticked-ahead k r z;
-    }
+-- past the table's end there is nothing
+beyond : {k : Kernel} → Reached k → (i : ℕ) → (i < 16 → ⊥) → slot k i ≡ blankSlot
+beyond {k} r i n = List·getD-eq-default (k .tasks) blankSlot (omega (arith, n, queued r .sound .owned .slots))
+
+-- of a slot inside it, and of one past its end
+each-slot : (k : Kernel) → Reached k → step k tick .number ≡ 0 → (P : TaskControl → TaskControl → Type 0) → P blankSlot blankSlot → (i : ℕ) → (i < 16 → P (slot k i) (slot (Scheduler.tick k) i)) → P (slot k i) (slot (step k tick .kernel) i)
+each-slot k r z P b i f =
+    elim (decLt i 16) [
+      | yes h ↦ ticks (λ (a : Answer). P (slot k i) (slot (a .kernel) i)) k z (f h)
+      | no h ↦ rw (beyond r i h, beyond (called tick r) i h) b
+    ]
+
+at-tick : (k : Kernel) → Reached k → step k tick .number ≡ 0 → AtTick k (step k tick)
+at-tick k r z = record {
+  due = λ i d. to i _ (sixteen r i (d .limited .present)) (waits-due now (slot k i) (d .limited .present) (d .limited .limit) (d .reached)) refl;
+  not-due = λ i l d. let b = kept k r i l .blocked in to i _ (sixteen r i (l .present)) (waits-on now (slot k i) (l .present) (l .limit) b d) (rw b);
+  unmarked = λ i n. each-slot k r z (λ t u. u .«limit_passed» ≡ t .«limit_passed») refl i (λ h. tick-mark k i h ∙ woken-mark now (slot k i) (λ o l. n (record { present = o; limit = l })));
+  sleeper = λ i d. to i _ (sixteen r i (d .present)) (woken-sleeper now (slot k i) (awake i (λ e. clash (ap asleep (sym e ∙ d .sleeping)) refl)) (sleeper-due now (slot k i) (d .present) (d .sleeping) (d .reached))) refl;
+  slice = slice;
+  others = λ i n m s. each-slot k r z (λ t u. u ≡ t) refl i
+      (λ h. let w = woken-still now (slot k i) (not-limited now (slot k i) (λ o l. n (record { present = o; limit = l }))) (not-sleeping now (slot k i) (λ o a b. m (record { present = o; sleeping = a; reached = b }))) in tick-slot k i h (ap runs (sym w) ∙ not-running (slot k i .state) s) ∙ sym w);
+  queues = λ o. ticks (λ (a : Answer). Without (Ends k o) (queueOf o k) (queueOf o (a .kernel))) k z (tick-queues k r (queued r .sound .is) (queued r .queues) (sixteen r) o);
+  mutexes = ticks (λ (a : Answer). a .kernel .mutexes ≡ k .mutexes) k z (tick-mutexes k);
+  wants = λ i d on. ticks (λ (a : Answer). a .value ≡ YesNo true) k z (ap YesNo (limit-wants k i (sixteen r i (d .limited .present)) on (limit-due now (slot k i) (d .limited .present) (d .limited .limit) (d .reached))));
+  ahead = ticked-ahead k r z;
+}
+  where
+    now : ℕ
+    now = k .«tick_count» + 1
+
+    to : (i : ℕ) (u : TaskControl) → i < 16 → woken now (slot k i) ≡ u → runs u ≡ false → slot (step k tick .kernel) i ≡ u
+    to i u h w n = ticks (λ (a : Answer). slot (a .kernel) i ≡ u) k z (tick-slot k i h (ap runs w ∙ n) ∙ w)
+
+    asleep : TaskState → Bool
+    asleep s = eqb (stateNumber s) 3
+
+    running : TaskState → Bool
+    running s = eqb (stateNumber s) 1
+
+    -- only Blocked tasks have a limit
+    awake : (i : ℕ) → (slot k i .state ≡ Blocked → ⊥) → isLimitDue now (slot k i) ≡ false
+    awake i n = not-limited now (slot k i) (λ o l. n (kept k r i (record { present = o; limit = l }) .blocked))
+
+    slice : (i : ℕ) → slot k i .state ≡ Running → (i ≡ current k) × (k .started ≡ true) × (slot (step k tick .kernel) i ≡ spent (slot k i))
+    slice i e =
+        let inv = reached-invariant r in
+        let on = inv .running i (ap running e) in
+        let w = woken-still now (slot k i) (awake i (λ b. clash (ap running (sym b ∙ e)) refl)) (not-sleeping now (slot k i) (λ _ b _. clash (ap running (sym b ∙ e)) refl)) in
+        (on .0, on .1, ticks (λ (a : Answer). slot (a .kernel) i ≡ spent (slot k i)) k z (rw (on .0) (tick-spent k inv (on .1) (rw (← on .0) (ap running e)) (rw (← on .0) w))))
 
 -- ---- lists
 

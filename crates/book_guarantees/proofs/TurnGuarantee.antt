@@ -13,6 +13,7 @@ use borrow.Author.Tests.{eqb-true, eqb-false}
 use Rattle.base.specs.Choice.{if_then_else_}
 use Rattle.base.specs.Below.{sumBelow}
 use Rattle.base.proofs.Choices.{either}
+use Rattle.base.proofs.Loops.{sum-but}
 use Rattle.kernel.specs.declared.control.TaskControl.{TaskControl}
 use Rattle.kernel.specs.declared.control.TaskId.{TaskId}
 use Rattle.kernel.specs.declared.scheduler.Kernel.{Kernel}
@@ -34,10 +35,10 @@ use Rattle.kernel.proofs.Reached.{init-kernel, reached}
 use Rattle.book_guarantees.specs.Lists.{Entry, after, Each, EachNext, Returned, end, Outcome, turn, tick, other, outcomeOf, outcome, AcceptedSwitch, turns, tickOf, ticksWhile, acceptedTick, starts, isStart}
 use Rattle.book_guarantees.specs.Turns.{Holds, Stays, Stretch, Peer, Unchanging, Rises, TurnGuarantee, TurnGuaranteeByPriority}
 use Rattle.book_guarantees.proofs.BestFirst.{clash}
-use Rattle.book_guarantees.proofs.Fairness.{IsTurn, answered, Step, Steps, At, each-at, fair}
+use Rattle.book_guarantees.proofs.Fairness.{most, budget, IsTurn, answered, Step, Steps, At, each-at, fair}
 use Rattle.book_guarantees.proofs.Kept.{IsOther, priority-kept, charge-kept, kept}
 use Rattle.book_guarantees.proofs.Account.{sum-kept}
-use Rattle.book_guarantees.proofs.Invariant.{Invariant, invariant-kept, fresh-invariant, five-ticks, other-invariant, other-step, LimitAhead, tick-clock, tick-ahead, tick-started, tick-invariant, tick-sum, tick-account, tick-tick, switch-only, switch-turn, start-only}
+use Rattle.book_guarantees.proofs.Invariant.{Invariant, invariant-kept, fresh-invariant, slice-ticks, other-invariant, other-step, LimitAhead, tick-clock, tick-ahead, tick-started, tick-invariant, tick-sum, tick-account, tick-tick, switch-only, switch-turn, start-only}
 
 no-turn : {A : Type 0} {s : ℕ} → other ≡ turn s → A
 no-turn q = let y : _≡_ {A = ℕ} 0 1 = cc in let o : ⊥ = omega (arith, y) in absurd o
@@ -210,27 +211,37 @@ switch-is-turn : (e : Entry) → AcceptedSwitch e → IsTurn (outcome e)
 unfolding outcome outcomeOf if_then_else_
 switch-is-turn e s = rw (s .1, s .0) tt
 
--- fifteen fives
-fives : (f : ℕ → ℕ) (i n : ℕ) → ((j : ℕ) → j < n → f j ≤ 5) → (i < n → sumBelow (λ j. if eqb j i then 0 else f j) n + 5 ≤ 5 * n) × (sumBelow (λ j. if eqb j i then 0 else f j) n ≤ 5 * n)
+-- a smaller each makes a smaller sum
+sum-mono : (f g : ℕ → ℕ) (n : ℕ) → ((j : ℕ) → j < n → f j ≤ g j) → sumBelow f n ≤ sumBelow g n
 unfolding sumBelow
-fives f i zero h = omega arith
-fives f i (suc n) h = go (fives f i n (λ j l. h j (omega (arith, l)))) (ℕ-discrete n i) (h n (omega arith))
+sum-mono f g zero h = omega arith
+sum-mono f g (suc n) h = omega (arith, sum-mono f g n (λ j l. h j (omega arith)), h n (omega arith))
+
+five : (j : ℕ) → most j ≤ 5
+five zero = omega arith
+five (suc j) = omega arith
+
+-- a slice of each slot but i: idle's 1 and fifteen fives, less that of i
+slices : (f : ℕ → ℕ) (i : ℕ) → i < 16 → ((j : ℕ) → j < 16 → f j ≤ most j) → sumBelow (λ j. if eqb j i then 0 else f j) 16 + most i ≤ 76
+unfolding sumBelow if_then_else_
+slices f i h g =
+    let others = sum-mono (λ j. if eqb j i then 0 else f j) (λ j. if eqb j i then 0 else most j) 16 (λ j l. within j (eqb j i) (g j l)) in
+    let all = sum-but most (λ j. if eqb j i then 0 else most j) 16 i h (λ j n. either (λ x. x ≡ most j) (eqb j i) (λ e. absurd (n (eqb-true j i e))) (λ _. refl)) in
+    let here : (if eqb i i then 0 else most i) ≡ 0 = either (λ x. x ≡ 0) (eqb i i) (λ _. refl) (λ e. absurd (eqb-false i i e refl)) in
+    let total : sumBelow most 16 ≡ 76 = refl in
+    omega (arith, others, all, here, total)
   where
-    g : ℕ → ℕ
-    g j = if eqb j i then 0 else f j
+    within : (j : ℕ) (b : Bool) → f j ≤ most j → (if b then 0 else f j) ≤ (if b then 0 else most j)
+    within j true l = omega arith
+    within j false l = l
 
-    small : f n ≤ 5 → g n ≤ 5
-    small l = either (λ x. x ≤ 5) (eqb n i) (λ _. omega arith) (λ _. l)
+-- in slot 0 stands idle
+less-slice : (i n : ℕ) → n + most i ≤ 76 → (n ≤ 75) × (i ≢ 0 → n ≤ 71)
+less-slice zero n h = (omega arith, λ e. absurd (e refl))
+less-slice (suc i) n h = (omega arith, λ _. omega arith)
 
-    skipped : n ≡ i → g n ≡ 0
-    skipped e = either (λ x. x ≡ 0) (eqb n i) (λ _. refl) (λ q. absurd (eqb-false n i q e))
-
-    go : (i < n → sumBelow g n + 5 ≤ 5 * n) × (sumBelow g n ≤ 5 * n) → Dec (n ≡ i) → f n ≤ 5 → (i < suc n → sumBelow g n + g n + 5 ≤ 5 * suc n) × (sumBelow g n + g n ≤ 5 * suc n)
-    go r (yes e) l = (λ _. omega (arith, r .1, skipped e), omega (arith, r .1, small l))
-    go r (no ne) l = (λ q. omega (arith, r .0 (omega (arith, q, ne)), small l), omega (arith, r .1, small l))
-
-charge-rises : (j : ℕ) (one : Entry) (between : List Entry) → ticksWhile j (after one) between ≤ 5 → charge (end (after one) between) j ≡ charge (after one) j + ticksWhile j (after one) between → Rises j one between
-charge-rises j one between five e = record { five = omega (arith, five, e); by-ticks = e }
+charge-rises : (j : ℕ) (one : Entry) (between : List Entry) → ticksWhile j (after one) between ≤ most j → charge (end (after one) between) j ≡ charge (after one) j + ticksWhile j (after one) between → Rises j one between
+charge-rises j one between few e = record { five = omega (arith, few, five j, e); by-ticks = e }
 
 -- an occupied slot is one of the sixteen
 occupied-inside : {k : Kernel} → Invariant k → (j : ℕ) → slot k j .occupied ≡ true → j < 16
@@ -250,7 +261,8 @@ turn-guarantee hz words accepted before between rest one two returned i a s u = 
   one-turn = λ j b q. f .0 j (inside j b q) (q .0 .another) (each-at rank r j b (one ∷ between) (q .0 .stayed) (subst (λ (x : ℕ). Each (λ e. rank (after e) j ≡ x) (one ∷ between)) (q .0 .equal) (refl, q .1)));
   peers = λ j b q. charge-rises j one between (f .1 j (inside j b q)) (y .account j b (q .0 .stayed));
   own = charge-rises i one between (f .1 i (begun .1)) (y .account i a (s .stays));
-  others = omega (arith, fives (λ j. ticksWhile j (after one) between) i 16 (f .1) .0 (begun .1));
+  others = ticks .0;
+  not-idle = ticks .1;
 }
   where
     r : ℕ
@@ -268,9 +280,12 @@ turn-guarantee hz words accepted before between rest one two returned i a s u = 
     inside : (j : ℕ) (b : TaskId) → Peer rank i one between j b × Unchanging rank j one between → j < 16
     inside j b q = occupied-inside (c .1 .invariant) j (q .0 .stayed .0 .present)
 
-    f : ((j : ℕ) → j < 16 → j ≢ i → Each (At rank r j) (one ∷ between) → turns j between ≡ 1) × ((j : ℕ) → j < 16 → ticksWhile j (after one) between ≤ 5)
-    f = fair rank i r (begun .1) between one (after two) (begun .0) (five-ticks (c .1 .invariant)) (y .steps) (each-at rank r i a (one ∷ between) (s .stays) (refl, u)) (s .neighbouring) (s .none-smaller)
+    f : ((j : ℕ) → j < 16 → j ≢ i → Each (At rank r j) (one ∷ between) → turns j between ≡ 1) × ((j : ℕ) → j < 16 → ticksWhile j (after one) between ≤ most j)
+    f = fair rank i r (begun .1) between one (after two) (begun .0) (subst (λ (x : ℕ). budget (after one) ≤ most x) (begun .0) (slice-ticks (c .1 .invariant))) (y .steps) (each-at rank r i a (one ∷ between) (s .stays) (refl, u)) (s .neighbouring) (s .none-smaller)
         (answered switch-is-turn between two (s .followed)) (subst (λ (v : Outcome). Step rank (end (after one) between) v (after two)) (s .second-turn) (y .second))
+
+    ticks : (sumBelow (λ j. if eqb j i then 0 else ticksWhile j (after one) between) 16 ≤ 75) × (i ≢ 0 → sumBelow (λ j. if eqb j i then 0 else ticksWhile j (after one) between) 16 ≤ 71)
+    ticks = less-slice i _ (slices (λ j. ticksWhile j (after one) between) i (begun .1) (f .1))
 
 -- ---- where no mutex has a queue
 
@@ -287,7 +302,7 @@ each-with f (e ∷ es) p q = (f e (p .0) (q .0), each-with f es (p .1) (q .1))
 pub turn-guarantee-by-priority : TurnGuaranteeByPriority
 turn-guarantee-by-priority hz words accepted before between rest one two returned empty i a s =
     let f = turn-guarantee hz words accepted before between rest one two returned i a by-rank (same i a (s .stays)) in
-    record { one-turn = λ j b q. f .one-turn j b (peer j b q); peers = λ j b q. f .peers j b (peer j b q); own = f .own; others = f .others }
+    record { one-turn = λ j b q. f .one-turn j b (peer j b q); peers = λ j b q. f .peers j b (peer j b q); own = f .own; others = f .others; not-idle = f .not-idle }
   where
     own : (j : ℕ) → rank (after one) j ≡ priorityOf (after one) j
     own = rank-own (after one) (empty .0)

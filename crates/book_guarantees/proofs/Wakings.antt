@@ -41,6 +41,8 @@ use Rattle.kernel.proofs.Changes.{Change, task, begins, clock, permits, flag, h
 use Rattle.kernel.proofs.MadeOf.{heads}
 use Rattle.kernel.proofs.Whole.{is-whole}
 use Rattle.kernel.proofs.Reached.{reached-by, reached-whole}
+use Rattle.book_guarantees.proofs.Signaled.{all-clear}
+use Rattle.book_guarantees.proofs.Queues.{not-yes}
 use Rattle.book_guarantees.specs.Wakings.{OneReady, OneWoken, NoneWoken, ReleaseOrSignal, releasing, signalling, Wakings, WakeGuarantee}
 
 -- ---- a wake
@@ -126,9 +128,9 @@ heads-no k (suc n) q e f t =
 
 -- ---- the object after the call
 
-record Sized (k : Kernel) : Type 0 where
-  semaphores : length (k .semaphores) ≡ 4
-  events : length (k .events) ≡ 4
+pub record Sized (k : Kernel) : Type 0 where
+  pub semaphores : length (k .semaphores) ≡ 4
+  pub events : length (k .events) ≡ 4
 
 same-sized : {k k′ : Kernel} → length (k′ .semaphores) ≡ length (k .semaphores) → length (k′ .events) ≡ length (k .events) → Sized k → Sized k′
 same-sized s v z = record { semaphores = s ∙ z .semaphores; events = v ∙ z .events }
@@ -151,7 +153,7 @@ fresh-sized : (hz words : ℕ) → initNumber hz words ≡ 0 → Sized (freshKer
 unfolding freshKernel
 fresh-sized hz words e = record { semaphores = refl; events = refl }
 
-sized : {k : Kernel} → Reached k → Sized k
+pub sized : {k : Kernel} → Reached k → Sized k
 sized r = reached-by Sized fresh-sized change-sized r
 
 -- what stands beside the tasks is as it was
@@ -257,6 +259,15 @@ set : (k : Kernel) → Reached k → (v : ℕ) → step k (signal v) .value ≡ 
 unfolding value
 set k r v h = let e = answers k (signal v) false h in of-step (λ a. event (a .kernel) v .signaled ≡ true) k (signal v) e (rw (event-after k v r e, told k (signal v) false _ refl h))
 
+-- an event that is signalled has no queue, so nobody is woken
+not-signaled : (k : Kernel) → Reached k → (v : ℕ) → step k (signal v) .value ≡ YesNo true → event (step k (signal v) .kernel) v .signaled ≡ false
+unfolding value
+not-signaled k r v h =
+    let e = answers k (signal v) true h in
+    let w = yes k r (signal v) _ (signalling v) h in
+    let was : event k v .signaled ≡ false = not-yes _ (λ s. omega (arith, w .queued, all-clear r v s)) in
+    of-step (λ a. event (a .kernel) v .signaled ≡ false) k (signal v) e (rw (event-after k v r e, told k (signal v) true _ refl h) was)
+
 tells : (k : Kernel) → Reached k → (c : Call) (queue : Kernel → WaitQueue) → ReleaseOrSignal c queue → step k c .number ≡ 0 → (step k c .value ≡ YesNo true) ⊎ (step k c .value ≡ YesNo false)
 tells k r c queue x h = let e = accepts k c h in of-step (λ a. (a .value ≡ YesNo true) ⊎ (a .value ≡ YesNo false)) k c e (which _ _ (did k c queue x r e .tells))
 
@@ -273,6 +284,6 @@ wake-guarantee k r = record {
   tells = tells k r;
   count = λ s h. let e = accepts k (release s) h in of-step (λ x. semaphore (x .kernel) s .count ≡ semaphore k s .count + 1) k (release s) e (ap (λ (x : Semaphore). x .count) (semaphore-after k s r e));
   set = set k r;
-  signaled-stays = λ v h. let e = answers k (signal v) true h in of-step (λ x. event (x .kernel) v .signaled ≡ event k v .signaled) k (signal v) e (rw (event-after k v r e, told k (signal v) true _ refl h));
+  not-signaled = not-signaled k r;
   kept = λ v h. let x = signalling v in ⊎-elim (λ t. inl (yes k r (signal v) _ x t)) (λ f. inr (set k r v f)) (tells k r (signal v) _ x h);
 }

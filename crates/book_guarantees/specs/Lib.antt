@@ -2,6 +2,7 @@ pub mod Refusals
 pub mod Lists
 pub mod Turns
 pub mod Charges
+pub mod Queues
 pub mod Wakings
 pub mod Limits
 pub mod Milliseconds

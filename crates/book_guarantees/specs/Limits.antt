@@ -4,14 +4,18 @@ use mathlib.Core.Path.{_≡_}
 use mathlib.Core.Bool.{true, false}
 use mathlib.Core.List.{List}
 use mathlib.Core.Logic.{_⊎_}
+use Rattle.kernel.specs.declared.control.TaskId.{TaskId}
 use Rattle.kernel.specs.declared.control.LimitObject.{LimitObject}
-use Rattle.kernel.specs.declared.control.LimitObject.the-variants.{AtSemaphore, AtEvent}
-use Rattle.kernel.specs.declared.control.TaskState.the-variants.{Blocked}
+use Rattle.kernel.specs.declared.control.LimitObject.the-variants.{NoLimit, AtSemaphore, AtEvent}
+use Rattle.kernel.specs.declared.control.TaskState.the-variants.{Ready, Running, Blocked, Sleeping}
+use Rattle.kernel.specs.declared.wait_queue.WaitQueue.{WaitQueue}
 use Rattle.kernel.specs.declared.scheduler.Kernel.{Kernel}
 use Rattle.kernel.specs.declared.scheduler.Value.the-variants.{YesNo}
-use Rattle.kernel.specs.Control.{hasLimit, expired}
-use Rattle.kernel.specs.WaitQueue.{contains}
+use Rattle.kernel.specs.declared.scheduler.Answer.{Answer}
+use Rattle.kernel.specs.Control.{hasLimit, entered, expired}
+use Rattle.kernel.specs.WaitQueue.{emptyQueue, position, contains}
 use Rattle.kernel.specs.Kernel.{slot, current, semaphore, event}
+use Rattle.kernel.specs.Scheduler.{spent}
 use Rattle.kernel.specs.Calls.{Call, tick, acquire-within, event-wait-within, step, Reached}
 use Rattle.book_guarantees.specs.Lists.{Entry, after, Each, Returned, end, acceptedTicks}
 
@@ -33,13 +37,62 @@ pub record Waiting (k : Kernel) (i : ℕ) : Type 0 where
   -- the limit lies after tick_count; where no tick comes any more it may be the last one itself
   pub ahead : (k .«tick_count» < slot k i .«limit_tick») ⊎ ((k .«tick_count» ≡ lastTick) × (slot k i .«limit_tick» ≡ lastTick))
 
--- what an accepted tick does to the limits of k; k′ is the kernel after it
-pub record AtTick (k k′ : Kernel) : Type 0 where
-  -- it ends exactly those that the raised tick_count reaches: that task is Ready and marked; any other task with a limit stays as it is
-  pub due : (i : ℕ) → Limited k i → slot k i .«limit_tick» ≤ k .«tick_count» + 1 → slot k′ i ≡ expired (slot k i)
-  pub not-due : (i : ℕ) → Limited k i → k .«tick_count» + 1 < slot k i .«limit_tick» → slot k′ i ≡ slot k i
+-- ---- an accepted tick
+
+-- the task in slot i has a limit that the raised tick_count reaches
+pub record LimitDue (k : Kernel) (i : ℕ) : Type 0 where
+  pub limited : Limited k i
+  pub reached : slot k i .«limit_tick» ≤ k .«tick_count» + 1
+
+-- the task in slot i sleeps, and the raised tick_count reaches its wake_tick
+pub record SleepDue (k : Kernel) (i : ℕ) : Type 0 where
+  pub present : slot k i .occupied ≡ true
+  pub sleeping : slot k i .state ≡ Sleeping
+  pub reached : slot k i .«wake_tick» ≤ k .«tick_count» + 1
+
+-- the queue of an object
+abbrev pub queueOf : LimitObject → Kernel → WaitQueue
+queueOf NoLimit k = emptyQueue
+queueOf (AtSemaphore s) k = semaphore k s .waiters
+queueOf (AtEvent e) k = event k e .waiters
+
+-- a is the id of a task whose limit at object o is due
+pub record Ends (k : Kernel) (o : LimitObject) (a : TaskId) : Type 0 where
+  pub i : ℕ
+  pub due : LimitDue k i
+  pub object : slot k i .«limit_object» ≡ o
+  pub named : slot k i .id ≡ a
+
+-- q′ is queue q without the ids of which `Gone` holds
+pub record Without (Gone : TaskId → Type 0) (q q′ : WaitQueue) : Type 0 where
+  -- such an id stands in it no more; the others do if they did, and keep their order
+  pub gone : (a : TaskId) → Gone a → contains q′ a ≡ false
+  pub stay : (a : TaskId) → (Gone a → ⊥) → contains q′ a ≡ contains q a
+  pub order : (a b : TaskId) → (Gone a → ⊥) → (Gone b → ⊥) → position q a < position q b → position q′ a < position q′ b
+  -- with no such id it is as it was
+  pub same : ((a : TaskId) → Gone a → ⊥) → q′ ≡ q
+
+-- what an accepted tick does on kernel k; a is its answer
+pub record AtTick (k : Kernel) (a : Answer) : Type 0 where
+  -- it ends exactly the limits that the raised tick_count reaches: that task is Ready and marked; any other task with a
+  -- limit is as it was
+  pub due : (i : ℕ) → LimitDue k i → slot (a .kernel) i ≡ expired (slot k i)
+  pub not-due : (i : ℕ) → Limited k i → k .«tick_count» + 1 < slot k i .«limit_tick» → slot (a .kernel) i ≡ slot k i
+  -- a slot without a limit keeps its mark, and is as it was but for a due sleeper's waking and the slice of the task that
+  -- runs, which is current
+  pub unmarked : (i : ℕ) → (Limited k i → ⊥) → slot (a .kernel) i .«limit_passed» ≡ slot k i .«limit_passed»
+  pub sleeper : (i : ℕ) → SleepDue k i → slot (a .kernel) i ≡ entered Ready (slot k i)
+  pub slice : (i : ℕ) → slot k i .state ≡ Running
+      → (i ≡ current k) × (k .started ≡ true) × (slot (a .kernel) i ≡ spent (slot k i))
+  pub others : (i : ℕ) → (Limited k i → ⊥) → (SleepDue k i → ⊥) → (slot k i .state ≡ Running → ⊥)
+      → slot (a .kernel) i ≡ slot k i
+  -- it takes the ids of those whose limit it ends out of that object's queue, and alters no queue otherwise
+  pub queues : (o : LimitObject) → Without (Ends k o) (queueOf o k) (queueOf o (a .kernel))
+  pub mutexes : a .kernel .mutexes ≡ k .mutexes
+  -- where it ends a limit it wants a switch, if the kernel is started: so wherever current is Running (`slice`)
+  pub wants : (i : ℕ) → LimitDue k i → k .started ≡ true → a .value ≡ YesNo true
   -- every limit lies after tick_count then, the last tick included
-  pub ahead : (i : ℕ) → Limited k′ i → k′ .«tick_count» < slot k′ i .«limit_tick»
+  pub ahead : (i : ℕ) → Limited (a .kernel) i → a .kernel .«tick_count» < slot (a .kernel) i .«limit_tick»
 
 -- ---- lists after the call
 
@@ -66,6 +119,6 @@ pub record EndsWithin (k′ : Kernel) (i n : ℕ) (o : LimitObject) (t : ℕ) : 
 pub record LimitGuarantee : Type 0 where
   -- "a task with a limit is Blocked and stands in that object's queue, and the limit lies after tick_count"
   pub kept : (k : Kernel) → Reached k → (i : ℕ) → Limited k i → Waiting k i
-  pub at-tick : (k : Kernel) → Reached k → step k tick .number ≡ 0 → AtTick k (step k tick .kernel)
+  pub at-tick : (k : Kernel) → Reached k → step k tick .number ≡ 0 → AtTick k (step k tick)
   -- "a limited wait ends within its limit of ticks": where the call answers no, it blocked
   pub ends : (k : Kernel) → Reached k → (n : ℕ) (o : LimitObject) (c : Call) → WithLimit n o c → step k c .value ≡ YesNo false → EndsWithin (step k c .kernel) (current k) n o (min (k .«tick_count» + n) lastTick)

@@ -61,11 +61,13 @@ pub record Rises (j : ℕ) (one : Entry) (between : List Entry) : Type 0 where
 
 -- "has exactly one turn between", and its charge "rises by at most 5. In every such stretch the charge" of the first task "also rises by at most 5"; "and the
 -- bound of 75 counts accepted ticks while others were current" (02, W-206). `Peers j b` says that task b of slot j is a peer.
+-- Idle's slice is 1: so where the first task is not idle, whose slot is 0, these ticks are at most 71.
 pub record Fair (Peers : ℕ → TaskId → Type 0) (i : ℕ) (one : Entry) (between : List Entry) : Type 0 where
   pub one-turn : (j : ℕ) (b : TaskId) → Peers j b → turns j between ≡ 1
   pub peers : (j : ℕ) (b : TaskId) → Peers j b → Rises j one between
   pub own : Rises i one between
   pub others : sumBelow (λ j. if eqb j i then 0 else ticksWhile j (after one) between) 16 ≤ 75
+  pub not-idle : i ≢ 0 → sumBelow (λ j. if eqb j i then 0 else ticksWhile j (after one) between) 16 ≤ 71
 
 -- ---- the sentence
 

@@ -58,7 +58,8 @@ pub record Wakings (k : Kernel) : Type 0 where
   pub count : (s : ℕ) → step k (release s) .number ≡ 0 → semaphore (step k (release s) .kernel) s .count ≡ semaphore k s .count + 1
   -- signal sets the flag if none was woken, and only then
   pub set : (e : ℕ) → step k (signal e) .value ≡ YesNo false → event (step k (signal e) .kernel) e .signaled ≡ true
-  pub signaled-stays : (e : ℕ) → step k (signal e) .value ≡ YesNo true → event (step k (signal e) .kernel) e .signaled ≡ event k e .signaled
+  pub not-signaled : (e : ℕ) → step k (signal e) .value ≡ YesNo true
+      → event (step k (signal e) .kernel) e .signaled ≡ false
   -- "an accepted signal is never lost": a task was woken, or the flag is set
   pub kept : (e : ℕ) → step k (signal e) .number ≡ 0 → OneWoken k (step k (signal e) .kernel) (event k e .waiters) (event (step k (signal e) .kernel) e .waiters) ⊎ (event (step k (signal e) .kernel) e .signaled ≡ true)
 
