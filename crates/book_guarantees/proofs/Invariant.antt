@@ -6,6 +6,7 @@ use mathlib.Core.List.{List}
 use mathlib.Core.Logic.{inl, inr}
 use Prim.Native.Nat.{ℕ, zero, suc, _+_, _-_, max, _≤_, _<_}
 use native.Mathlib.Decide.{ℕ-discrete}
+use native.Mathlib.Nat.{le-refl}
 use native.Mathlib.Omega.{arith}
 use lib.Dec.{eqb}
 use lib.ListN.{getD, set, length, replicate}
@@ -16,13 +17,13 @@ use Rattle.base.specs.Below.{anyBelow, sumBelow}
 use Rattle.base.proofs.Choices.{and-right, either, taken, left}
 use Rattle.base.proofs.Loops.{set-each, sum-but}
 use Rattle.kernel.specs.declared.control.TaskControl.{TaskControl}
-use Rattle.kernel.specs.declared.control.TaskState.the-variants.{Ready}
+use Rattle.kernel.specs.declared.control.TaskState.the-variants.{Ready, Running}
 use Rattle.kernel.specs.declared.scheduler.Kernel.{Kernel}
 use Rattle.kernel.specs.Update.{withRemaining}
-use Rattle.kernel.specs.Control.{stateNumber, holdsTask, hasLimit, blankSlot, newTask}
+use Rattle.kernel.specs.Control.{stateNumber, holdsTask, hasLimit, entered, blankSlot, newTask}
 use Rattle.kernel.specs.Kernel.{slot, charge, chargeSum, at, current, currentTask, freshKernel}
 use Rattle.kernel.specs.Rank.{rank}
-use Rattle.kernel.specs.Scheduler.{isReady, nextTask, nextId, lowestEmpty, isDue, isLimitDue, woken, spent, clocked, advanced, currentRuns, sliced, wants, wantsSwitch, contextSaved, saveContext}
+use Rattle.kernel.specs.Scheduler.{isReady, nextTask, nextId, lowestEmpty, isDue, isLimitDue, woken, spent, clocked, advanced, currentRuns, sliced, wants, wantsSwitch, contextSaved, reloaded, saveContext}
 use Rattle.kernel.specs.Scheduler
 use Rattle.kernel.specs.Calls.{Kind, plain, ticking, initNumber}
 use Rattle.kernel.proofs.Pick.{pick-lt}
@@ -34,7 +35,7 @@ use Rattle.kernel.proofs.Owned.{all-default}
 use Rattle.book_guarantees.proofs.BestFirst.{clash, Rather, pick-is}
 use Rattle.book_guarantees.proofs.Fairness.{runs, Live, most, allowance, budget, some-tick, Tick, Other, Turn}
 use Rattle.book_guarantees.proofs.Account.{Account, fresh-account, change-account}
-use Rattle.book_guarantees.proofs.Kept.{SliceFits, IsOther, TaskKept, task-kept, reloaded-kept, each-kept, kept, NoLonger, no-longer}
+use Rattle.book_guarantees.proofs.Kept.{SliceFits, slice-same, IsOther, TaskKept, task-kept, reloaded-kept, each-kept, kept, NoLonger, no-longer}
 
 -- ---- the invariant
 
@@ -42,36 +43,39 @@ use Rattle.book_guarantees.proofs.Kept.{SliceFits, IsOther, TaskKept, t
 abbrev OnlyCurrent : Kernel → Type 0
 OnlyCurrent k = (j : ℕ) → runs (slot k j) ≡ true → (j ≡ current k) × (k .started ≡ true)
 
--- slices are at most 5, and idle's 1
+-- slices are at most 5, and idle's is 1
 abbrev Slices : Kernel → Type 0
-Slices k = (j : ℕ) → SliceFits (most j) (slot k j)
+Slices k = (j : ℕ) → SliceFits j (slot k j)
 
 pub record Invariant (k : Kernel) : Type 0 where
   pub account : Account k
   pub slices : Slices k
   pub running : OnlyCurrent k
 
-one-slot : (k : Kernel) → Slices k → (i : ℕ) (u : TaskControl) → SliceFits (most i) u → (j : ℕ) → SliceFits (most j) (getD (set (k .tasks) i u) j blankSlot)
-one-slot k f i u h = set-each (λ j t. SliceFits (most j) t) blankSlot (k .tasks) i u h f
+one-slot : (k : Kernel) → Slices k → (i : ℕ) (u : TaskControl) → SliceFits i u → (j : ℕ) → SliceFits j (getD (set (k .tasks) i u) j blankSlot)
+one-slot k f i u h = set-each SliceFits blankSlot (k .tasks) i u h f
 
--- no task is added in idle's slot
-new-fits : (j : ℕ) (t : TaskControl) → (j ≡ 0 → ⊥) → SliceFits 5 t → SliceFits (most j) t
-new-fits zero t n f = absurd (n refl)
-new-fits (suc j) t n f = f
+same-slice : (k : Kernel) → Slices k → (i : ℕ) (u : TaskControl) → u .«time_slice» ≡ slot k i .«time_slice» → u .«remaining_slice» ≡ slot k i .«remaining_slice» → (j : ℕ) → SliceFits j (getD (set (k .tasks) i u) j blankSlot)
+same-slice k f i u s r = one-slot k f i u (slice-same i (slot k i) u s (omega (arith, r)) (f i))
+
+-- idle's slot is neither given nor emptied
+not-idles : (j : ℕ) (t : TaskControl) → (j ≡ 0 → ⊥) → SliceFits 1 t → SliceFits j t
+not-idles zero t n f = absurd (n refl)
+not-idles (suc j) t n f = f
 
 change-slices : {g : Kind} (k k′ : Kernel) → Change g k k′ → Account k → Slices k → Slices k′
 unfolding Scheduler.add
-change-slices k k′ (task i u h c) a f = one-slot k f i u (task-kept c .slices (most i) (f i))
-change-slices k k′ (begins o n h b g p s) a f = one-slot k f _ _ (f (current k))
+change-slices k k′ (task i u h c) a f = one-slot k f i u (task-kept c .slices i (f i))
+change-slices k k′ (begins o n h b g p s) a f = same-slice k f (current k) _ refl refl
 change-slices k k′ (clock l b) a f = f
 change-slices k k′ (permits s n q h c) a f = f
 change-slices k k′ (flag v n q h c) a f = f
 change-slices k k′ (handoff m h q l c) a f = f
-change-slices k k′ (owner m l from to h q r d c) a f = owner-each Slices (λ x i n _ e. one-slot x e i _ (e i)) from to k f
-change-slices k k′ (added p r free region) a f = one-slot k f _ _ (new-fits (lowestEmpty k) (newTask (nextId k) p r) (λ e. clash (a .sound .is .idle) (rw e at (first-empty k free))) (omega arith))
-change-slices k k′ (reaped i h idle running on) a f = one-slot k f i blankSlot (omega arith)
-change-slices k k′ (begun x h o) a f = one-slot k f _ _ (f (nextTask k))
-change-slices k k′ (turned x h o) a f = one-slot k f _ _ (reloaded-kept _ .2 _ (f (nextTask k)))
+change-slices k k′ (owner m l from to h q r d c) a f = owner-each Slices (λ x i n _ e. same-slice x e i _ refl refl) from to k f
+change-slices k k′ (added p r free region) a f = one-slot k f _ _ (not-idles (lowestEmpty k) (newTask (nextId k) p r) (λ e. clash (a .sound .is .idle) (rw e at (first-empty k free))) (omega arith))
+change-slices k k′ (reaped i h idle running on) a f = one-slot k f i blankSlot (not-idles i blankSlot (λ e. idle (sym e)) (omega arith))
+change-slices k k′ (begun x h o) a f = same-slice k f (nextTask k) _ refl refl
+change-slices k k′ (turned x h o) a f = let t = slot k (nextTask k) in one-slot k f (nextTask k) _ (slice-same (nextTask k) (reloaded t) (entered Running (reloaded t)) refl (le-refl _) (reloaded-kept t .2 (nextTask k) (f (nextTask k))))
 
 pub invariant-kept : {g : Kind} {k k′ : Kernel} → Changes g k k′ → Invariant k → OnlyCurrent k′ → Invariant k′
 invariant-kept {g} cs i r =
@@ -82,8 +86,8 @@ pub fresh-invariant : (hz words : ℕ) → initNumber hz words ≡ 0 → Invaria
 unfolding freshKernel
 fresh-invariant hz words e = record { account = fresh-account hz words e; slices = λ j. slots j .0; running = λ j r. clash r (slots j .1) }
   where
-    slots : (j : ℕ) → SliceFits (most j) (slot (freshKernel hz words) j) × (runs (slot (freshKernel hz words) j) ≡ false)
-    slots zero = (omega arith, refl)
+    slots : (j : ℕ) → SliceFits j (slot (freshKernel hz words) j) × (runs (slot (freshKernel hz words) j) ≡ false)
+    slots zero = ((refl, omega arith), refl)
     slots (suc j) = rw (all-default blankSlot 15 j) (omega arith, refl)
 
 -- ---- how many ticks a task may have
@@ -92,9 +96,13 @@ some-slice : (j : ℕ) → 1 ≤ most j
 some-slice zero = omega arith
 some-slice (suc j) = omega arith
 
+within : (j : ℕ) (t : TaskControl) → SliceFits j t → max 1 (t .«remaining_slice») ≤ most j
+within zero t f = omega (arith, f .1)
+within (suc j) t f = omega (arith, f .1)
+
 pub slice-ticks : {k : Kernel} → Invariant k → budget k ≤ most (current k)
 unfolding allowance
-slice-ticks {k} i = either (λ n. n ≤ most (current k)) (runs (currentTask k)) (λ _. omega (arith, i .slices (current k) .1, some-slice (current k))) (λ _. some-slice (current k))
+slice-ticks {k} i = either (λ n. n ≤ most (current k)) (runs (currentTask k)) (λ _. within (current k) (currentTask k) (i .slices (current k))) (λ _. some-slice (current k))
 
 while-running : (t : TaskControl) → runs t ≡ true → allowance t ≡ max 1 (t .«remaining_slice»)
 unfolding allowance

@@ -2,7 +2,7 @@
 -- tick: current, started, tick_count, and the charge of a task that stays present; and no task comes to run, or to have more ticks left.
 use mathlib.Core.Path.{_≡_, refl, sym, ap, _∙_}
 use mathlib.Core.Bool.{Bool, true, false}
-use Prim.Native.Nat.{ℕ, _≤_}
+use Prim.Native.Nat.{ℕ, zero, suc, _≤_}
 use native.Mathlib.Nat.{le-refl, le-trans}
 use native.Mathlib.Omega.{arith}
 use lib.Dec.{eqb}
@@ -11,6 +11,7 @@ use Rattle.base.proofs.Choices.{either}
 use Rattle.base.proofs.Loops.{set-default}
 use Rattle.kernel.specs.declared.control.TaskControl.{TaskControl}
 use Rattle.kernel.specs.declared.scheduler.Kernel.{Kernel}
+use Rattle.kernel.specs.Update.{withRemaining}
 use Rattle.kernel.specs.Control.{blankSlot}
 use Rattle.kernel.specs.Kernel.{slot, charge, current}
 use Rattle.kernel.specs.Scheduler.{contextSaved, reloaded, lowestEmpty}
@@ -20,9 +21,18 @@ use Rattle.kernel.proofs.Changes.{TaskChange, same, state, asleep, ended, waite
 use Rattle.book_guarantees.proofs.BestFirst.{clash}
 use Rattle.book_guarantees.proofs.Fairness.{runs}
 
--- the slice, and what remains of it, within n
+-- the slice of the task in a slot, and what remains of it: in slot 0 idle's, which is 1, elsewhere at most 5
 abbrev pub SliceFits : ℕ → TaskControl → Type 0
-SliceFits n t = (t .«time_slice» ≤ n) × (t .«remaining_slice» ≤ n)
+SliceFits zero t = (t .«time_slice» ≡ 1) × (t .«remaining_slice» ≤ 1)
+SliceFits (suc j) t = (t .«time_slice» ≤ 5) × (t .«remaining_slice» ≤ 5)
+
+pub slice-same : (j : ℕ) (t u : TaskControl) → u .«time_slice» ≡ t .«time_slice» → u .«remaining_slice» ≤ t .«remaining_slice» → SliceFits j t → SliceFits j u
+slice-same zero t u s r f = (s ∙ f .0, omega (arith, f .1))
+slice-same (suc j) t u s r f = (omega (arith, f .0), omega (arith, f .1))
+
+slice-full : (j : ℕ) (t : TaskControl) → SliceFits j t → SliceFits j (withRemaining (t .«time_slice») t)
+slice-full zero t f = (f .0, omega (arith, f .0))
+slice-full (suc j) t f = (f .0, f .0)
 
 -- a call of this kind gives no turn and no tick
 abbrev pub IsOther : Kind → Type 0
@@ -39,12 +49,12 @@ IsOther plain = Unit {0}
 pub record TaskKept (g : Kind) (t u : TaskControl) : Type 0 where
   pub occupied : u .occupied ≡ t .occupied
   pub priority : u .priority ≡ t .priority
-  pub slices : (n : ℕ) → SliceFits n t → SliceFits n u
+  pub slices : (j : ℕ) → SliceFits j t → SliceFits j u
   pub running : runs u ≡ true → runs t ≡ true
   pub remaining : IsOther g → u .«remaining_slice» ≤ t .«remaining_slice»
 
 less-left : {g : Kind} {t u : TaskControl} → u .occupied ≡ t .occupied → u .priority ≡ t .priority → u .«time_slice» ≡ t .«time_slice» → u .«remaining_slice» ≤ t .«remaining_slice» → (runs u ≡ true → runs t ≡ true) → TaskKept g t u
-less-left o p s r e = record { occupied = o; priority = p; slices = λ n f. (omega (arith, f .0), omega (arith, f .1)); running = e; remaining = λ _. r }
+less-left {t = t} {u = u} o p s r e = record { occupied = o; priority = p; slices = λ j. slice-same j t u s r; running = e; remaining = λ _. r }
 
 pub task-kept : {g : Kind} {t u : TaskControl} → TaskChange g t u → TaskKept g t u
 unfolding contextSaved
@@ -56,12 +66,12 @@ task-kept (waiter a) = less-left refl refl refl (le-refl _) (λ e. e)
 task-kept (answered r) = less-left refl refl refl (le-refl _) (λ e. e)
 task-kept passed = less-left refl refl refl (le-refl _) (λ e. clash e refl)
 task-kept (less n h) = less-left refl refl refl h (λ e. e)
-task-kept full = record { occupied = refl; priority = refl; slices = λ n f. (f .0, f .0); running = λ e. e; remaining = λ x. absurd x }
+task-kept (full {t = t}) = record { occupied = refl; priority = refl; slices = λ j. slice-full j t; running = λ e. e; remaining = λ x. absurd x }
 task-kept (saved {t = t} sp) = either (TaskKept switching t) (runs t) (λ _. less-left refl refl refl (le-refl _) (λ e. clash e refl)) (λ _. less-left refl refl refl (le-refl _) (λ e. e))
 
-pub reloaded-kept : (t : TaskControl) → ((reloaded t) .occupied ≡ t .occupied) × ((reloaded t) .priority ≡ t .priority) × ((n : ℕ) → SliceFits n t → SliceFits n (reloaded t))
+pub reloaded-kept : (t : TaskControl) → ((reloaded t) .occupied ≡ t .occupied) × ((reloaded t) .priority ≡ t .priority) × ((j : ℕ) → SliceFits j t → SliceFits j (reloaded t))
 unfolding reloaded
-reloaded-kept t = either (λ (u : TaskControl). (u .occupied ≡ t .occupied) × (u .priority ≡ t .priority) × ((n : ℕ) → SliceFits n t → SliceFits n u)) (eqb (t .«remaining_slice») 0) (λ _. (refl, refl, λ n f. (f .0, f .0))) (λ _. (refl, refl, λ n f. f))
+reloaded-kept t = either (λ (u : TaskControl). (u .occupied ≡ t .occupied) × (u .priority ≡ t .priority) × ((j : ℕ) → SliceFits j t → SliceFits j u)) (eqb (t .«remaining_slice») 0) (λ _. (refl, refl, λ j. slice-full j t)) (λ _. (refl, refl, λ _ f. f))
 
 -- ---- slot by slot, over all the changes of a call
 

@@ -33,7 +33,7 @@ use Rattle.kernel.proofs.Changes.{Changes, none}
 use Rattle.kernel.proofs.MadeOf.{made-of}
 use Rattle.kernel.proofs.Reached.{init-kernel, reached}
 use Rattle.book_guarantees.specs.Lists.{Entry, after, Each, EachNext, Returned, end, Outcome, turn, tick, other, outcomeOf, outcome, AcceptedSwitch, turns, tickOf, ticksWhile, acceptedTick, starts, isStart}
-use Rattle.book_guarantees.specs.Turns.{Holds, Stays, Stretch, Peer, Unchanging, Rises, TurnGuarantee, TurnGuaranteeByPriority}
+use Rattle.book_guarantees.specs.Turns.{Holds, Stays, Stretch, Peer, Unchanging, Rises, TurnGuarantee, TurnGuaranteeByPriority, IdleSlice}
 use Rattle.book_guarantees.proofs.BestFirst.{clash}
 use Rattle.book_guarantees.proofs.Fairness.{most, budget, IsTurn, answered, Step, Steps, At, each-at, fair}
 use Rattle.book_guarantees.proofs.Kept.{IsOther, priority-kept, charge-kept, kept}
@@ -286,6 +286,9 @@ turn-guarantee hz words accepted before between rest one two returned i a s u = 
 
     ticks : (sumBelow (λ j. if eqb j i then 0 else ticksWhile j (after one) between) 16 ≤ 75) × (i ≢ 0 → sumBelow (λ j. if eqb j i then 0 else ticksWhile j (after one) between) 16 ≤ 71)
     ticks = less-slice i _ (slices (λ j. ticksWhile j (after one) between) i (begun .1) (f .1))
+
+pub idle-slice : IdleSlice
+idle-slice k r = reached-invariant r .slices 0 .0
 
 -- ---- where no mutex has a queue
 

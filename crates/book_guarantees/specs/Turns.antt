@@ -12,7 +12,7 @@ use Rattle.kernel.specs.declared.control.TaskState.the-variants.{Ready, Running
 use Rattle.kernel.specs.declared.scheduler.Kernel.{Kernel}
 use Rattle.kernel.specs.Kernel.{slot, charge}
 use Rattle.kernel.specs.Rank.{priorityOf, noQueues, rank}
-use Rattle.kernel.specs.Calls.{init, initNumber}
+use Rattle.kernel.specs.Calls.{init, initNumber, Reached}
 use Rattle.book_guarantees.specs.Lists.{Entry, after, Each, EachNext, Returned, end, turn, tick, outcome, AcceptedSwitch, turns, ticksWhile}
 
 -- ---- the words of the sentence; `one` is the call that gives the first turn, `between` the calls after it and before the second
@@ -87,3 +87,7 @@ TurnGuarantee = InEveryList (λ one between two. (i : ℕ) (a : TaskId) → Stre
 abbrev pub TurnGuaranteeByPriority : Type 0
 TurnGuaranteeByPriority = InEveryList (λ one between two. Each (λ e. noQueues (after e) ≡ true) (one ∷ between)
     → (i : ℕ) (a : TaskId) → Stretch priorityOf i a one between two → Fair (Peer priorityOf i one between) i one between)
+
+-- Idle's slice, on which the 71 rests: after every list of calls from fresh it is 1.
+abbrev pub IdleSlice : Type 0
+IdleSlice = (k : Kernel) → Reached k → slot k 0 .«time_slice» ≡ 1
