@@ -39,6 +39,10 @@ pub not-clear : (b : Bool) → not b ≡ false → b ≡ true
 not-clear true e = refl
 not-clear false e = sym e
 
+pub not-yes : (b : Bool) → (b ≡ true → ⊥) → b ≡ false
+not-yes true h = absurd (h refl)
+not-yes false h = refl
+
 pub and-left : (a b : Bool) → (a && b) ≡ true → a ≡ true
 and-left true b e = refl
 and-left false b e = e

@@ -86,6 +86,35 @@ any-done p = upto-done (anyBelow p)
 pub upto-any : (p : ℕ → Bool) (n : ℕ) (x r : Bool) (i : ℕ) → Upto (anyBelow p) n x i → i < n → r ≡ p i → Upto (anyBelow p) n (x || r) (i + 1)
 upto-any p n x r i u h e = (omega arith, rw (u .1, e, any-more p i))
 
+-- a number that p holds of, from one of them and to one of them
+pub any-some : (p : ℕ → Bool) (n i : ℕ) → i < n → p i ≡ true → anyBelow p n ≡ true
+unfolding anyBelow
+any-some p zero i h e = absurd (omega arith)
+any-some p (suc n) i h e =
+    elim (decLt i n) [
+      | yes q ↦ rw (any-some p n i q e)
+      | no q ↦ rw (← only i n h q, e) (or-true (anyBelow p i))
+    ]
+  where
+    or-true : (b : Bool) → (b || true) ≡ true
+    or-true true = refl
+    or-true false = refl
+
+pub any-at : (p : ℕ → Bool) (n : ℕ) → anyBelow p n ≡ true → (i : ℕ) × (i < n) × (p i ≡ true)
+unfolding anyBelow
+any-at p zero e = absurd (false≢true e)
+any-at p (suc n) e = go (anyBelow p n) refl (any-at p n)
+  where
+    go : (b : Bool) → anyBelow p n ≡ b → (anyBelow p n ≡ true → (i : ℕ) × (i < n) × (p i ≡ true)) → (i : ℕ) × (i < suc n) × (p i ≡ true)
+    go true q f = let x = f q in (x .0, omega (arith, x .1), x .2)
+    go false q f = (n, omega arith, rw q at e)
+
+-- p holds of none
+pub any-false : (p : ℕ → Bool) (n : ℕ) → ((i : ℕ) → i < n → p i ≡ false) → anyBelow p n ≡ false
+unfolding anyBelow
+any-false p zero f = refl
+any-false p (suc n) f = rw (f n (omega arith), any-false p n (λ i h. f i (omega arith)))
+
 -- ---- count
 
 count-none : (p : ℕ → Bool) → 0 ≡ countBelow p 0
@@ -417,6 +446,12 @@ pub sum-same : (f g : ℕ → ℕ) (n : ℕ) → ((i : ℕ) → i < n → f i �
 unfolding sumBelow
 sum-same f g zero h = refl
 sum-same f g (suc n) h = rw (sum-same f g n (λ i l. h i (omega arith)), h n (omega arith))
+
+-- a smaller each makes a smaller sum
+pub sum-mono : (f g : ℕ → ℕ) (n : ℕ) → ((i : ℕ) → i < n → f i ≤ g i) → sumBelow f n ≤ sumBelow g n
+unfolding sumBelow
+sum-mono f g zero h = omega arith
+sum-mono f g (suc n) h = omega (arith, sum-mono f g n (λ i l. h i (omega arith)), h n (omega arith))
 
 -- two that agree everywhere but at x
 pub sum-but : (f g : ℕ → ℕ) (n x : ℕ) → x < n → ((i : ℕ) → (i ≡ x → ⊥) → g i ≡ f i) → sumBelow g n + f x ≡ sumBelow f n + g x

@@ -1,39 +1,19 @@
 -- The pick gives, of the Ready slots, one of the smallest rank, and of those the first from c + 1 on in the ring.
 use mathlib.Core.Path.{_≡_, refl, ap, _∙_}
-use mathlib.Core.Bool.{Bool, true, false, _&&_, _||_, not}
-use Prim.Native.Nat.{ℕ, zero, suc, _+_, _-_, _*_, _%_, _≤_, _<_}
+use mathlib.Core.Bool.{Bool, true, false, _&&_, not}
+use Prim.Native.Nat.{ℕ, suc, _+_, _-_, _*_, _%_, _≤_, _<_}
 use native.Mathlib.Decide.{decLt}
 use native.Mathlib.Omega.{arith}
 use lib.Dec.{eqb, ltb}
 use borrow.Author.Tests.{le-ltb, lt-ltb, ltb-false, eqb-true, eq-eqb}
 use Rattle.base.specs.Below.{anyBelow, lowestBelow}
 use Rattle.base.proofs.Choices.{taken, and-left, and-right}
-use Rattle.base.proofs.Loops.{all-at, all-each, lowest-at, lowest-is, lowest-before}
+use Rattle.base.proofs.Loops.{all-at, all-each, any-some, any-at, lowest-at, lowest-is, lowest-before}
 use Rattle.kernel.specs.Scheduler.{slotAfter, isBest, distance, pick}
 use Rattle.book_guarantees.proofs.Ring.{ahead, rounds, ahead-after, after-ahead}
 
 pub clash : {A : Type 0} {b : Bool} → b ≡ true → b ≡ false → A
 clash p q = let y : _≡_ {A = ℕ} 0 1 = cc in let o : ⊥ = omega (arith, y) in absurd o
-
--- a number that p holds of, from one of them and to one of them
-pub any-some : (p : ℕ → Bool) (n i : ℕ) → i < n → p i ≡ true → anyBelow p n ≡ true
-unfolding anyBelow
-any-some p zero i h e = absurd (omega arith)
-any-some p (suc n) i h e = go (anyBelow p n) refl (decLt i n) (any-some p n i)
-  where
-    go : (b : Bool) → anyBelow p n ≡ b → Dec (i < n) → (i < n → p i ≡ true → anyBelow p n ≡ true) → (anyBelow p n || p n) ≡ true
-    go true q d f = rw q
-    go false q (yes l) f = clash (f l e) q
-    go false q (no l) f = let s : i ≡ n = omega (arith, h, l) in rw (q, ← s) e
-
-any-at : (p : ℕ → Bool) (n : ℕ) → anyBelow p n ≡ true → (i : ℕ) × (i < n) × (p i ≡ true)
-unfolding anyBelow
-any-at p zero e = clash e refl
-any-at p (suc n) e = go (anyBelow p n) refl (any-at p n)
-  where
-    go : (b : Bool) → anyBelow p n ≡ b → (anyBelow p n ≡ true → (i : ℕ) × (i < n) × (p i ≡ true)) → (i : ℕ) × (i < suc n) × (p i ≡ true)
-    go true q f = let x = f q in (x .0, omega (arith, x .1), x .2)
-    go false q f = (n, omega arith, rw q at e)
 
 -- s is picked rather than j
 pub record Rather (ready : ℕ → Bool) (rank : ℕ → ℕ) (c s j : ℕ) : Type 0 where

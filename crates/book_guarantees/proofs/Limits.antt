@@ -17,7 +17,7 @@ use Rattle.kernel.specs.declared.control.TaskId.{TaskId}
 use Rattle.kernel.specs.declared.control.LimitObject.{LimitObject}
 use Rattle.kernel.specs.declared.control.LimitObject.the-variants.{NoLimit, AtSemaphore, AtEvent}
 use Rattle.kernel.specs.declared.control.TaskState.{TaskState}
-use Rattle.kernel.specs.declared.control.TaskState.the-variants.{Running, Blocked, Sleeping}
+use Rattle.kernel.specs.declared.control.TaskState.the-variants.{Running, Blocked}
 use Rattle.kernel.specs.declared.control.TaskControl.{TaskControl}
 use Rattle.kernel.specs.declared.wait_queue.WaitQueue.{WaitQueue}
 use Rattle.kernel.specs.declared.semaphore.Semaphore.{Semaphore}
@@ -28,13 +28,13 @@ use Rattle.kernel.specs.declared.scheduler.Answer.{Answer}
 use Rattle.kernel.specs.Control.{stateNumber, inState, holdsTask, isLimit, hasLimit, objectFits, entered, expired, blankSlot}
 use Rattle.kernel.specs.Update.{withLimit}
 use Rattle.kernel.specs.WaitQueue.{contains, head}
-use Rattle.kernel.specs.Kernel.{slot, current, semaphore, event, freshKernel}
+use Rattle.kernel.specs.Kernel.{slot, current, event, freshKernel}
 use Rattle.kernel.specs.Scheduler.{contextSaved, limited, isDue, isLimitDue, woken, spent, wantsSwitch}
 use Rattle.kernel.specs.Scheduler
 use Rattle.kernel.specs.Semaphore
 use Rattle.kernel.specs.Semaphore.{hasPermit}
 use Rattle.kernel.specs.Event
-use Rattle.kernel.specs.Calls.{Call, tick, acquire-within, event-wait-within, Kind, number, value, valueNumber, effect, accepted, step, Reached, called}
+use Rattle.kernel.specs.Calls.{Call, tick, Kind, number, value, valueNumber, effect, accepted, step, Reached, called}
 use Rattle.kernel.proofs.Queue.{enqueued-keeps, popped-keeps, removed-keeps}
 use Rattle.kernel.proofs.Accepted.{accepted-at}
 use Rattle.kernel.proofs.Changes.{TaskChange, same, state, asleep, ended, waiter, answered, passed, less, full, saved, QueueChange, still, joined, left, out, Unlimited, absent, present, queueIn, owner-each, Change, task, begins, clock, permits, flag, handoff, owner, added, reaped, begun, turned}

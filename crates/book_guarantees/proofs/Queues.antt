@@ -8,9 +8,9 @@ use mathlib.Core.Logic.{_⊎_, inl, inr, ⊎-elim}
 use lib.Dec.{ltb}
 use lib.ListN.{length, getD, set, replicate, length-set}
 use lib.Seq.{getD-set-same, getD-set-other}
-use borrow.Author.Tests.{ltb-true, lt-ltb, ltb-false, leb-false, lt-leb, eqb-true, eq-eqb}
+use borrow.Author.Tests.{ltb-true, lt-ltb, ltb-false, leb-false, lt-leb, eqb-true}
 use Rattle.base.specs.Choice.{if_then_else_}
-use Rattle.base.proofs.Choices.{either, taken, left as left-arm, through, and-right, same-test}
+use Rattle.base.proofs.Choices.{not-yes, either, taken, left as left-arm, through, and-right, same-test}
 use Rattle.base.proofs.Loops.{tabulate-length, tabulate-at, set-each, lowest-le, lowest-before, lowest-only}
 use Rattle.kernel.specs.declared.control.TaskId.{TaskId}
 use Rattle.kernel.specs.declared.wait_queue.WaitQueue.{WaitQueue}
@@ -22,7 +22,7 @@ use Rattle.kernel.specs.WaitQueue.{zeroId, emptyQueue, place, waitsAt, position
 use Rattle.kernel.specs.Kernel.{mutex, semaphore, event, freshKernel}
 use Rattle.kernel.specs.Scheduler
 use Rattle.kernel.specs.Calls.{Kind, initNumber, Reached}
-use Rattle.kernel.proofs.Queue.{waits-in, found-at, removed-keeps}
+use Rattle.kernel.proofs.Queue.{waits-in, waits-here, found-at, removed-keeps}
 use Rattle.kernel.proofs.Changes.{QueueChange, still, joined, left, out, Change, task, begins, clock, permits, flag, handoff, owner, added, reaped, begun, turned}
 use Rattle.kernel.proofs.Reached.{reached-by}
 use Rattle.book_guarantees.specs.Queues.{Once, QueueGuarantee}
@@ -35,15 +35,8 @@ pub record Fits (q : WaitQueue) : Type 0 where
   pub len : q .len ≤ 8
   pub once : Once q
 
-pub not-yes : (b : Bool) → (b ≡ true → ⊥) → b ≡ false
-not-yes true h = absurd (h refl)
-not-yes false h = refl
-
 pub same-id : (a b : TaskId) → a .0 ≡ b .0 → a ≡ b
 same-id a b e = ap (λ (n : ℕ). record { 0 = n }) e
-
-waits-here : (q : WaitQueue) (a : TaskId) (j : ℕ) → j < q .len → place q j .0 ≡ a .0 → waitsAt q a j ≡ true
-waits-here q a j h e = rw (lt-ltb _ _ h, eq-eqb _ _ e)
 
 in-queue : (q : WaitQueue) (a : TaskId) (j : ℕ) → q .len ≤ 8 → j < q .len → place q j .0 ≡ a .0 → contains q a ≡ true
 in-queue q a j l h e = waits-in q a j (omega arith) (waits-here q a j h e)
@@ -128,19 +121,22 @@ pub record AllFit (k : Kernel) : Type 0 where
   pub semaphores : (s : ℕ) → s < 4 → Fits (semaphore k s .waiters)
   pub events : (e : ℕ) → e < 4 → Fits (event k e .waiters)
 
+same-fits : {k k′ : Kernel} → k′ .mutexes ≡ k .mutexes → k′ .semaphores ≡ k .semaphores → k′ .events ≡ k .events → AllFit k → AllFit k′
+same-fits m s e f = record { mutexes = rw m (f .mutexes); semaphores = rw s (f .semaphores); events = rw e (f .events) }
+
 pub change-fits : (g : Kind) (k k′ : Kernel) → Change g k k′ → AllFit k → AllFit k′
 unfolding Scheduler.add
-change-fits g k k′ (task i u h c) f = record { mutexes = f .mutexes; semaphores = f .semaphores; events = f .events }
-change-fits g k k′ (begins o n h b e p s) f = record { mutexes = f .mutexes; semaphores = f .semaphores; events = f .events }
-change-fits g k k′ (clock l a) f = record { mutexes = f .mutexes; semaphores = f .semaphores; events = f .events }
+change-fits g k k′ (task i u h c) f = same-fits refl refl refl f
+change-fits g k k′ (begins o n h b e p s) f = same-fits refl refl refl f
+change-fits g k k′ (clock l a) f = same-fits refl refl refl f
 change-fits g k k′ (permits s n q h c) f = record { mutexes = f .mutexes; semaphores = set-each (λ j (y : Semaphore). j < 4 → Fits (y .waiters)) _ (k .semaphores) s _ (λ l. queue-fits c (f .semaphores s l)) (f .semaphores); events = f .events }
 change-fits g k k′ (flag v n q h c) f = record { mutexes = f .mutexes; semaphores = f .semaphores; events = set-each (λ j (y : Event). j < 4 → Fits (y .waiters)) _ (k .events) v _ (λ l. queue-fits c (f .events v l)) (f .events) }
 change-fits g k k′ (handoff m h q l c) f = record { mutexes = set-each (λ j (y : Mutex). j < 4 → Fits (y .waiters)) _ (k .mutexes) m _ (λ l. queue-fits c (f .mutexes m l)) (f .mutexes); semaphores = f .semaphores; events = f .events }
 change-fits g k k′ (owner m x from to h q l d c) f = record { mutexes = set-each (λ j (y : Mutex). j < 4 → Fits (y .waiters)) _ (k .mutexes) m _ (λ l. queue-fits c (f .mutexes m l)) (f .mutexes); semaphores = f .semaphores; events = f .events }
-change-fits g k k′ (added p r free region) f = record { mutexes = f .mutexes; semaphores = f .semaphores; events = f .events }
-change-fits g k k′ (reaped x h idle running on) f = record { mutexes = f .mutexes; semaphores = f .semaphores; events = f .events }
-change-fits g k k′ (begun x h o) f = record { mutexes = f .mutexes; semaphores = f .semaphores; events = f .events }
-change-fits g k k′ (turned x h o) f = record { mutexes = f .mutexes; semaphores = f .semaphores; events = f .events }
+change-fits g k k′ (added p r free region) f = same-fits refl refl refl f
+change-fits g k k′ (reaped x h idle running on) f = same-fits refl refl refl f
+change-fits g k k′ (begun x h o) f = same-fits refl refl refl f
+change-fits g k k′ (turned x h o) f = same-fits refl refl refl f
 
 pub empty-fits : Fits emptyQueue
 empty-fits = record { places = refl; len = omega arith; once = λ i j h. absurd (omega arith) }

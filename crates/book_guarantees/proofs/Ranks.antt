@@ -1,5 +1,5 @@
 -- What the book says of ranks, by the laws of crates/kernel/proofs/Rank.antt.
-use Prim.Native.Nat.{ℕ, zero, suc, _≤_, _<_}
+use Prim.Native.Nat.{ℕ, _≤_, _<_}
 use native.Mathlib.Omega.{arith}
 use mathlib.Core.Path.{_≡_, refl, sym, ap, subst, _∙_}
 use mathlib.Core.Bool.{Bool, true, false, _&&_}
@@ -9,9 +9,9 @@ use lib.ListN.{getD}
 use lib.Seq.{getD-set-other}
 use borrow.Author.Tests.{ltb-true, le-ltb, eqb-true, eqb-false}
 use Rattle.base.specs.Choice.{if_then_else_}
-use Rattle.base.specs.Below.{anyBelow, tabulate}
+use Rattle.base.specs.Below.{tabulate}
 use Rattle.base.proofs.Choices.{either}
-use Rattle.base.proofs.Loops.{smallest-at, smallest-is, tabulate-length, tabulate-at}
+use Rattle.base.proofs.Loops.{any-false, smallest-at, smallest-is, tabulate-length, tabulate-at}
 use Rattle.kernel.specs.declared.control.TaskId.{TaskId}
 use Rattle.kernel.specs.declared.control.OptionTaskId.the-variants.{Some}
 use Rattle.kernel.specs.declared.control.TaskControl.{TaskControl}
@@ -63,18 +63,13 @@ byte-ready : (k : Kernel) (i : ℕ) → eqb (stateByte k i) 0 ≡ isReady k i
 unfolding holdsTask
 byte-ready k i = occupied-ready (slot k i .occupied) (stateNumber (slot k i .state))
 
-none-any : (p : ℕ → Bool) (n : ℕ) → ((i : ℕ) → i < n → p i ≡ false) → anyBelow p n ≡ false
-unfolding anyBelow
-none-any p zero f = refl
-none-any p (suc n) f = rw (f n (omega arith), none-any p n (λ i h. f i (omega arith)))
-
 -- on bytes that say who is Ready, and ranks
 pick-bytes : (states ranks ranks′ : ℕ → ℕ) (ready : ℕ → Bool) (c : ℕ) → c < 16 → ((i : ℕ) → i < 16 → states i ≤ 6) → ((i : ℕ) → i < 16 → eqb (states i) 0 ≡ ready i) → ((i : ℕ) → ranks i ≡ ranks′ i)
     → pickBytes (tabulate states 16) (tabulate ranks 16) c ≡ pick ready ranks′ c
 unfolding pickBytes if_then_else_
 pick-bytes states ranks ranks′ ready c h few is same =
     let at : (i : ℕ) → i < 16 → getD (tabulate states 16) i 0 ≡ states i = λ i l. tabulate-at states 0 16 i l in
-    rw (tabulate-length states 16, tabulate-length ranks 16, none-any (λ i. ltb 6 (getD (tabulate states 16) i 0)) 16 (λ i l. rw (at i l) (le-ltb 6 (states i) (few i l))), le-ltb 15 c (omega arith))
+    rw (tabulate-length states 16, tabulate-length ranks 16, any-false (λ i. ltb 6 (getD (tabulate states 16) i 0)) 16 (λ i l. rw (at i l) (le-ltb 6 (states i) (few i l))), le-ltb 15 c (omega arith))
     (pick-same _ _ _ _ (λ i l. rw (at i l) (is i l)) (λ i l _. tabulate-at ranks 0 16 i l ∙ same i) c)
 
 exported : (k : Kernel) → current k < 16 → pickBytes (stateBytes k) (rankBytes k) (current k) ≡ nextTask k

@@ -1,12 +1,9 @@
 -- A signalled event has no queue, from fresh: an event is signalled only where its queue is empty, and nobody joins the queue of one that is. Call by call.
 use Prim.Native.Nat.{ℕ, zero, suc, _-_}
 use native.Mathlib.Omega.{arith}
-use mathlib.Core.Path.{_≡_, refl, sym, ap, _∙_}
+use mathlib.Core.Path.{_≡_, refl, sym, _∙_}
 use mathlib.Core.Bool.{Bool, true, false, false≢true, not, _||_, _&&_}
 use lib.Dec.{ltb}
-use lib.ListN.{getD, set}
-use borrow.Author.Tests.{eqb-true}
-use Rattle.base.specs.Choice.{if_then_else_}
 use Rattle.base.proofs.Choices.{either}
 use Rattle.base.proofs.Loops.{set-each}
 use Rattle.kernel.specs.declared.control.TaskId.{TaskId}
@@ -29,10 +26,9 @@ use Rattle.kernel.specs.Mutex.{ownsMutex, isHanded}
 use Rattle.kernel.specs.Semaphore
 use Rattle.kernel.specs.Semaphore.{hasPermit}
 use Rattle.kernel.specs.Event
-use Rattle.kernel.specs.Calls.{Call, add, start, tick, switch, current-id, status, block, sleep, wake, exit, wait, reap, reap-one, result, lock, try-lock, unlock, acquire, acquire-within, try-acquire, release, event-wait, event-wait-within, signal, list, ticks-to-ms, number, effect, initNumber, Reached}
+use Rattle.kernel.specs.Calls.{Call, add, start, tick, switch, current-id, status, block, sleep, wake, exit, wait, reap, reap-one, result, lock, try-lock, unlock, acquire, acquire-within, try-acquire, release, event-wait, event-wait-within, signal, list, ticks-to-ms, effect, Reached}
 use Rattle.kernel.proofs.Queue.{popped-length}
 use Rattle.kernel.proofs.Changes.{id-each}
-use Rattle.kernel.proofs.Owned.{all-default}
 use Rattle.kernel.proofs.Reached.{reached}
 
 -- of one event, and of all

@@ -5,14 +5,13 @@ use native.Mathlib.Omega.{arith}
 use mathlib.Core.Path.{_≡_, refl, sym, ap, subst, _∙_}
 use mathlib.Core.Bool.{Bool, true, false, not, _&&_, _||_, false≢true}
 use mathlib.Core.Logic.{_⊎_, inl, inr, ⊎-elim}
-use lib.Dec.{eqb, leb}
+use lib.Dec.{eqb}
 use lib.ListN.{length}
 use lib.Seq.{getD-set-same, getD-set-other}
 use borrow.Author.Tests.{leb-true, le-leb, ltb-true}
 use Rattle.base.specs.Choice.{if_then_else_}
-use Rattle.base.specs.Below.{anyBelow}
-use Rattle.base.proofs.Choices.{either, left, and-left, and-right}
-use Rattle.base.proofs.Loops.{set-each}
+use Rattle.base.proofs.Choices.{not-yes, either, left, and-left, and-right}
+use Rattle.base.proofs.Loops.{any-some, set-each}
 use Rattle.kernel.specs.declared.control.TaskId.{TaskId}
 use Rattle.kernel.specs.declared.control.LimitObject.{LimitObject}
 use Rattle.kernel.specs.declared.control.LimitObject.the-variants.{NoLimit, AtSemaphore, AtEvent}
@@ -22,7 +21,7 @@ use Rattle.kernel.specs.declared.control.TaskControl.{TaskControl}
 use Rattle.kernel.specs.declared.wait_queue.WaitQueue.{WaitQueue}
 use Rattle.kernel.specs.declared.scheduler.Kernel.{Kernel}
 use Rattle.kernel.specs.Control.{stateNumber, inState, holdsTask, isLimit, hasLimit, objectFits, entered, blankSlot}
-use Rattle.kernel.specs.WaitQueue.{position, contains, removed}
+use Rattle.kernel.specs.WaitQueue.{contains, removed}
 use Rattle.kernel.specs.Kernel.{slot, current, currentTask}
 use Rattle.kernel.specs.Scheduler.{isDue, isLimitDue, woken, unqueued, visited, walked, spent, clocked, advanced, currentRuns, sliced, wants, wantsSwitch}
 use Rattle.kernel.specs.Scheduler
@@ -31,9 +30,8 @@ use Rattle.kernel.proofs.Unlimited.{due-occupied}
 use Rattle.kernel.proofs.Walk.{walked-beside, walked-before, walked-after}
 use Rattle.kernel.proofs.Whole.{Whole}
 use Rattle.book_guarantees.specs.Limits.{queueOf, Ends, Without}
-use Rattle.book_guarantees.proofs.BestFirst.{any-some}
 use Rattle.book_guarantees.proofs.Wakings.{sized}
-use Rattle.book_guarantees.proofs.Queues.{Fits, empty-fits, AllFit, not-yes, same-id, removed-fits, removed-gone, removed-stays, removed-order}
+use Rattle.book_guarantees.proofs.Queues.{Fits, empty-fits, AllFit, same-id, removed-fits, removed-gone, removed-stays, removed-order}
 
 -- ---- a task without a limit
 

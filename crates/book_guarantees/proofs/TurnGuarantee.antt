@@ -4,8 +4,8 @@ use mathlib.Core.Path.{_≡_, refl, sym, ap, subst, _∙_}
 use mathlib.Core.Bool.{Bool, true, false, _&&_, _||_}
 use mathlib.Core.List.{List, [], _∷_, _++_}
 use mathlib.Core.Logic.{_≢_}
-use Prim.Native.Nat.{ℕ, zero, suc, _+_, _*_, _≤_, _<_}
-use native.Mathlib.Decide.{decLt, ℕ-discrete}
+use Prim.Native.Nat.{ℕ, zero, suc, _+_, _≤_, _<_}
+use native.Mathlib.Decide.{decLt}
 use native.Mathlib.Omega.{arith}
 use lib.Dec.{eqb}
 use lib.ListN.{List·getD-eq-default}
@@ -13,7 +13,7 @@ use borrow.Author.Tests.{eqb-true, eqb-false}
 use Rattle.base.specs.Choice.{if_then_else_}
 use Rattle.base.specs.Below.{sumBelow}
 use Rattle.base.proofs.Choices.{either}
-use Rattle.base.proofs.Loops.{sum-but}
+use Rattle.base.proofs.Loops.{sum-mono, sum-but}
 use Rattle.kernel.specs.declared.control.TaskControl.{TaskControl}
 use Rattle.kernel.specs.declared.control.TaskId.{TaskId}
 use Rattle.kernel.specs.declared.scheduler.Kernel.{Kernel}
@@ -210,12 +210,6 @@ between-of e (f ∷ es) two fs o c =
 switch-is-turn : (e : Entry) → AcceptedSwitch e → IsTurn (outcome e)
 unfolding outcome outcomeOf if_then_else_
 switch-is-turn e s = rw (s .1, s .0) tt
-
--- a smaller each makes a smaller sum
-sum-mono : (f g : ℕ → ℕ) (n : ℕ) → ((j : ℕ) → j < n → f j ≤ g j) → sumBelow f n ≤ sumBelow g n
-unfolding sumBelow
-sum-mono f g zero h = omega arith
-sum-mono f g (suc n) h = omega (arith, sum-mono f g n (λ j l. h j (omega arith)), h n (omega arith))
 
 five : (j : ℕ) → most j ≤ 5
 five zero = omega arith

@@ -1,6 +1,5 @@
 -- What the book says of wake, release and signal, proved: by induction on how many wait, then read off the step.
 use Prim.Native.Nat.{ℕ, zero, suc, _+_, _-_, _≤_, _<_}
-use native.Mathlib.Decide.{decLt}
 use native.Mathlib.Omega.{arith}
 use native.Mathlib.Numerals.{add-one}
 use mathlib.Core.Path.{_≡_, refl, sym, ap, subst, _∙_}
@@ -8,11 +7,11 @@ use mathlib.Core.Bool.{Bool, true, false, _||_, not, false≢true}
 use mathlib.Core.Logic.{_⊎_, inl, inr, ⊎-elim}
 use mathlib.Core.List.{List}
 use lib.Dec.{eqb}
-use lib.ListN.{length, length-set, List·getD-eq-default}
+use lib.ListN.{length, length-set}
 use lib.Seq.{getD-set-same, getD-set-other}
 use borrow.Author.Tests.{ltb-true, eqb-true}
 use Rattle.base.specs.Choice.{if_then_else_}
-use Rattle.base.proofs.Choices.{and-left, and-right, either}
+use Rattle.base.proofs.Choices.{not-yes, and-left, and-right, either}
 use Rattle.kernel.specs.declared.control.TaskId.{TaskId}
 use Rattle.kernel.specs.declared.control.TaskState.{TaskState}
 use Rattle.kernel.specs.declared.control.TaskState.the-variants.{Ready, Running, Blocked, Sleeping, Suspended, Terminated}
@@ -25,24 +24,24 @@ use Rattle.kernel.specs.declared.scheduler.Value.{Value}
 use Rattle.kernel.specs.declared.scheduler.Value.the-variants.{Nothing, Id, Turn, Region, NoRegion, YesNo, Count, Milliseconds}
 use Rattle.kernel.specs.declared.scheduler.Answer.{Answer}
 use Rattle.kernel.specs.Update.{withTasks}
-use Rattle.kernel.specs.Control.{stateNumber, inState, blankSlot, entered}
+use Rattle.kernel.specs.Control.{stateNumber, blankSlot, entered}
 use Rattle.kernel.specs.WaitQueue.{place, head, popped}
 use Rattle.kernel.specs.Kernel.{slot, at, currentId, slotOf, isPresent, semaphore, event, freshKernel}
 use Rattle.kernel.specs.Scheduler
 use Rattle.kernel.specs.Scheduler.{wakes, dropHeads, wakeOne}
 use Rattle.kernel.specs.Semaphore
 use Rattle.kernel.specs.Event
-use Rattle.kernel.specs.Calls.{Call, wake, release, signal, number, value, effect, accepted, refused, step, Reached, initNumber, Kind, plain}
+use Rattle.kernel.specs.Calls.{Call, wake, release, signal, number, value, effect, accepted, step, Reached, initNumber, Kind, plain}
 use Rattle.kernel.proofs.Queue.{popped-length, popped-place}
 use Rattle.kernel.proofs.Tasks.{found-occupied, wake-is}
 use Rattle.kernel.proofs.Accepted.{accepted-is, accepted-object}
+use Rattle.kernel.proofs.Unlimited.{inside}
 use Rattle.kernel.proofs.Step.{step-accepted}
 use Rattle.kernel.proofs.Changes.{Change, task, begins, clock, permits, flag, handoff, owner, added, reaped, begun, turned, still}
 use Rattle.kernel.proofs.MadeOf.{heads}
 use Rattle.kernel.proofs.Whole.{is-whole}
 use Rattle.kernel.proofs.Reached.{reached-by, reached-whole}
 use Rattle.book_guarantees.proofs.Signaled.{all-clear}
-use Rattle.book_guarantees.proofs.Queues.{not-yes}
 use Rattle.book_guarantees.specs.Wakings.{OneReady, OneWoken, NoneWoken, ReleaseOrSignal, releasing, signalling, Wakings, WakeGuarantee}
 
 -- ---- a wake
@@ -55,14 +54,6 @@ is-blocked Sleeping e = absurd (false≢true e)
 is-blocked Suspended e = absurd (false≢true e)
 is-blocked Terminated e = absurd (false≢true e)
 
--- an occupied slot lies in the table
-in-table : (k : Kernel) (i : ℕ) → slot k i .occupied ≡ true → i < length (k .tasks)
-in-table k i o =
-    elim (decLt i (length (k .tasks))) [
-      | yes h ↦ h
-      | no h ↦ absurd (false≢true (sym (ap (λ (t : TaskControl). t .occupied) (List·getD-eq-default (k .tasks) blankSlot {n = i} (omega arith))) ∙ o))
-    ]
-
 woken-one : (k : Kernel) (a : TaskId) → wakes a k ≡ true → OneReady k (Scheduler.wake a k) (slotOf k a)
 unfolding if_then_else_
 woken-one k a t =
@@ -71,7 +62,7 @@ woken-one k a t =
     subst (λ (k′ : Kernel). OneReady k k′ i) (rw t at (wake-is a k)) (record {
       present = o;
       was = is-blocked (slot k i .state) (and-right (isPresent k a) _ t);
-      is = getD-set-same (k .tasks) i (entered Ready (slot k i)) blankSlot (in-table k i o);
+      is = getD-set-same (k .tasks) i (entered Ready (slot k i)) blankSlot (inside k i o);
       others = λ j n. getD-set-other (k .tasks) i j (entered Ready (slot k i)) blankSlot n;
     })
 

@@ -35,8 +35,8 @@ found-at q a e =
     let w = lowest-is (waitsAt q a) 8 h in
     (h, ltb-true _ _ (and-left _ _ w), eqb-true _ _ (and-right (ltb (position q a) (q .len)) _ w))
 
-here : (q : WaitQueue) (a : TaskId) (j : ℕ) → j < q .len → place q j .0 ≡ a .0 → waitsAt q a j ≡ true
-here q a j h e = rw (lt-ltb _ _ h, eq-eqb _ _ e)
+pub waits-here : (q : WaitQueue) (a : TaskId) (j : ℕ) → j < q .len → place q j .0 ≡ a .0 → waitsAt q a j ≡ true
+waits-here q a j h e = rw (lt-ltb _ _ h, eq-eqb _ _ e)
 
 -- one that joins, where there is room or it is there already
 pub enqueued-contains : (q : WaitQueue) (a : TaskId) → (isFull q && not (contains q a)) ≡ false → length (enqueued q a .ids) ≡ 8 → contains (enqueued q a) a ≡ true
@@ -45,7 +45,7 @@ enqueued-contains q a room =
     let longer : WaitQueue = record { ids = set (q .ids) (q .len) a; len = q .len + 1 } in
     either (λ (x : WaitQueue). length (x .ids) ≡ 8 → contains x a ≡ true) (contains q a) (λ e _. e)
     (λ e. either (λ (x : WaitQueue). length (x .ids) ≡ 8 → contains x a ≡ true) (isFull q) (λ f. absurd (false≢true (sym (rw (f, e) at room))))
-    (λ f l. waits-in longer a (q .len) (leb-false 8 (q .len) f) (here longer a (q .len) (omega arith) (ap (λ (b : TaskId). b .0) (getD-set-same (q .ids) (q .len) a zeroId (omega (arith, leb-false 8 (q .len) f, l, length-set (q .ids) (q .len) a)))))))
+    (λ f l. waits-in longer a (q .len) (leb-false 8 (q .len) f) (waits-here longer a (q .len) (omega arith) (ap (λ (b : TaskId). b .0) (getD-set-same (q .ids) (q .len) a zeroId (omega (arith, leb-false 8 (q .len) f, l, length-set (q .ids) (q .len) a)))))))
 
 -- those who are there stay
 pub enqueued-keeps : (q : WaitQueue) (a b : TaskId) → contains q b ≡ true → contains (enqueued q a) b ≡ true
@@ -56,7 +56,7 @@ enqueued-keeps q a b e =
     let longer : WaitQueue = record { ids = set (q .ids) (q .len) a; len = q .len + 1 } in
     either (λ (x : WaitQueue). contains x b ≡ true) (contains q a) (λ _. e)
     (λ _. either (λ (x : WaitQueue). contains x b ≡ true) (isFull q) (λ _. e)
-    (λ _. waits-in longer b j (f .0) (here longer b j (omega (arith, f .1)) (ap (λ (c : TaskId). c .0) (getD-set-other (q .ids) (q .len) j a zeroId (λ g. omega (arith, f .1, g))) ∙ f .2))))
+    (λ _. waits-in longer b j (f .0) (waits-here longer b j (omega (arith, f .1)) (ap (λ (c : TaskId). c .0) (getD-set-other (q .ids) (q .len) j a zeroId (λ g. omega (arith, f .1, g))) ∙ f .2))))
 
 -- but the one that is taken out
 without-keeps : (q : WaitQueue) (i : ℕ) (b : TaskId) → i < q .len → (place q i .0 ≡ b .0 → ⊥) → contains q b ≡ true → contains (without q i) b ≡ true
@@ -73,11 +73,11 @@ without-keeps q i b h n e = go (decLt j i)
     apart g = n (rw (← g) (f .2))
 
     go : Dec (j < i) → contains (without q i) b ≡ true
-    go (yes l) = waits-in (without q i) b j (f .0) (here (without q i) b j (omega (arith, f .1)) (rw (tabulate-at (placeWithout q i) zeroId 8 j (f .0), lt-leb (q .len) (j + 1) (omega (arith, f .1)), lt-ltb j i l) (f .2)))
+    go (yes l) = waits-in (without q i) b j (f .0) (waits-here (without q i) b j (omega (arith, f .1)) (rw (tabulate-at (placeWithout q i) zeroId 8 j (f .0), lt-leb (q .len) (j + 1) (omega (arith, f .1)), lt-ltb j i l) (f .2)))
     go (no l) =
         let p = j - 1 in
         let back : p + 1 ≡ j = omega (arith, apart) in
-        waits-in (without q i) b p (omega (arith, f .0)) (here (without q i) b p (omega (arith, f .1, apart)) (rw (tabulate-at (placeWithout q i) zeroId 8 p (omega (arith, f .0)), lt-leb (q .len) (p + 1) (omega (arith, f .1, back)), le-ltb p i (omega (arith, back, apart)), back) (f .2)))
+        waits-in (without q i) b p (omega (arith, f .0)) (waits-here (without q i) b p (omega (arith, f .1, apart)) (rw (tabulate-at (placeWithout q i) zeroId 8 p (omega (arith, f .0)), lt-leb (q .len) (p + 1) (omega (arith, f .1, back)), le-ltb p i (omega (arith, back, apart)), back) (f .2)))
 
 pub popped-keeps : (q : WaitQueue) (b : TaskId) → (head q .0 ≡ b .0 → ⊥) → contains q b ≡ true → contains (popped q) b ≡ true
 unfolding popped

@@ -8,7 +8,7 @@ use lib.Dec.{ltb}
 use lib.ListN.{length, List·getD-eq-default}
 use lib.Seq.{getD-set-same}
 use borrow.Author.Tests.{ltb-true, ltb-false, leb-false, eq-eqb}
-use Rattle.base.proofs.Choices.{and-left, and-right, either, taken}
+use Rattle.base.proofs.Choices.{not-yes, and-left, and-right, either, taken}
 use Rattle.base.proofs.Loops.{lowest-is, lowest-before, set-each}
 use Rattle.kernel.specs.Types.{TaskId, Ready, Blocked, TaskControl, Kernel}
 use Rattle.kernel.specs.Control.{inState, hasLimit, entered, expired, blankSlot}
@@ -17,10 +17,6 @@ use Rattle.kernel.specs.Scheduler.{wake, wakes, isDue, isLimitDue, woken
 use Rattle.kernel.proofs.Whole.{Whole}
 use Rattle.kernel.proofs.Tasks.{wake-is}
 use Rattle.kernel.proofs.Changes.{Unlimited, absent, present}
-
-not-yes : (b : Bool) → (b ≡ true → ⊥) → b ≡ false
-not-yes true h = absurd (h refl)
-not-yes false h = refl
 
 -- an occupied slot lies inside the table
 pub inside : (k : Kernel) (i : ℕ) → slot k i .occupied ≡ true → i < length (k .tasks)
