@@ -2,7 +2,7 @@
 the model and, where a call is in the compared domain, against the Rust; of other lines the reference has to say 01's number. At
 a release or signal that drops a head which is not Blocked it has to say W-201, at a wait with a limit W-202, at a lock after which a
 mutex has a queue W-205; from there on the list is held to the model alone. So are the lists of `late` and of `odd`, since no list brings the
-Rust to that tick, and its kernel has no charges. At milliseconds from ticks it has to say W-204; the call alters nothing, and the Rust plays
+Rust to that tick or to those kernels. At milliseconds from ticks it has to say W-204; the call alters nothing, and the Rust plays
 the list without it. The tables of tests/cases/README.md have to name these cases, in this order.
 
   cases.py [DIR]    with DIR, also writes each list and what is printed for it: DIR/NAME.in and DIR/NAME.out for `turns`,

@@ -642,7 +642,8 @@ ODD += [
         mutexes={0: (True, None, None, []), 1: (True, None, 5, []), 2: (False, 5, None, []), 3: (True, 5, 6, [])}),
     Odd("four-owned", tasks={1: (5, 128, RUNNING, {"owned": 4}), 2: (7, 128, BLOCKED, {"owned": 4})}, current=1, mutexes={3: (True, 5, None, [7])}),
     with_slice("with-slice 5 0", 5, 0), with_slice("with-slice 0 0", 0, 0), with_slice("with-slice 0 2", 0, 2),
-    twice("both-blocked", BLOCKED, BLOCKED, 200, RUNNING, 3, ({}, {}, {"owned": 1, "waiter": 5}), mutexes={0: (True, 7, None, [5])}, semaphores={0: [5]}),
+    twice("both-blocked", BLOCKED, BLOCKED, 200, RUNNING, 3, ({}, {}, {"owned": 1, "waiter": 5}),
+          mutexes={0: (True, 7, None, [5])}, semaphores={0: [5]}),
     twice("current-twice", READY, RUNNING, 200, READY, 2, ({}, {"owned": 1}, {}), mutexes={1: (True, 5, None, [])})]
 ODD += [
     twice(f"ended-twice {current}", TERMINATED, TERMINATED, 200, READY, current,
