@@ -246,9 +246,10 @@ pub are-whole : every (map whole kernels) ≡ true
 unfolding kernels computed
 are-whole = refl
 
--- reading 14: 11 is an owned count above 0
+-- reading 14 of 01: 11 is an owned count above 0
+-- 14 compares the owner, and a mutex handed to current need not be its own
 -- without an owner a locked mutex is another's, also where it is handed to current
--- 13 and 14 compare the owner, and 14 does not ask for the lock
+-- 13 compares the owner, and so does unlock where the mutex is not locked
 -- the count is 0 then: 15; and exit is accepted, though 5 is the owner of mutex 3
 pub by-owner-or-count :
     seen-at 0 exit owner-fields
@@ -264,7 +265,7 @@ pub by-owner-or-count :
 unfolding computed
 by-owner-or-count = refl
 
--- reading 15: lock, try lock and a handoff raise 4 to 5, and the next call is 1
+-- reading 15 of 01: lock, try lock and a handoff raise 4 to 5, and the next call is 1
 pub count-of-5 :
     counted (lock 0) four-owned ∷ counted (try-lock 0) four-owned ∷ counted (unlock 3) four-owned ∷ []
     ≡ (0 ∷ 1 ∷ 5 ∷ 4 ∷ 1 ∷ []) ∷ (0 ∷ 1 ∷ 5 ∷ 4 ∷ 1 ∷ []) ∷ (0 ∷ 1 ∷ 3 ∷ 5 ∷ 1 ∷ []) ∷ []
@@ -278,9 +279,9 @@ pub whole-no-longer :
 unfolding computed
 whole-no-longer = refl
 
--- reading 17: with 0 remaining the slice is full again
--- of a slice of 0 nothing remains
--- what remains of it falls first
+-- reading 17 of 01: with 0 remaining it becomes the slice
+-- a slice of 0 too
+-- what remains of that falls first
 pub slice-of-0 :
     ticked (with-slice 5 0)
     ∷ ticked (with-slice 0 0)
@@ -291,10 +292,10 @@ pub slice-of-0 :
 unfolding computed
 slice-of-0 = refl
 
--- reading 18: an id is looked up in the lowest slot: by wake, whose second one finds it Ready
--- by release, which drops it then and wakes nobody
--- by a handoff, and by exit of its waiter
--- by reap, which does not find it Terminated
+-- reading 18 of 01: an id means the lowest slot that holds it, in wake, whose second one finds that Ready
+-- in release, which then drops it and wakes nobody
+-- in a handoff, and in exit, whose waiter is Ready by then
+-- in reap: that has not ended
 pub lower-slot :
     seen (wake (id 5)) both-blocked ∷ seen (wake (id 5)) (after (wake (id 5)) both-blocked)
     ∷ seen (release 0) both-blocked ∷ seen (release 0) (after (wake (id 5)) both-blocked)
@@ -307,7 +308,7 @@ pub lower-slot :
 unfolding computed
 lower-slot = refl
 
--- .. by wait: the waiters then; by result: the results
+-- .. in wait and in result: the waiters and the results then
 pub lower-slot-kept :
     each (λ t. waiterId (t .waiter)) (after (wait (id 5)) both-blocked)
     ∷ each (λ t. resultNumber (t .result)) (after (result (id 5) (pos 9)) both-blocked) ∷ []
@@ -315,8 +316,8 @@ pub lower-slot-kept :
 unfolding computed
 lower-slot-kept = refl
 
--- .. by reap, whose second one finds the other, which is current
--- where the lower is current; reap one looks at the slots
+-- .. in reap; the next one means the other slot, which is current
+-- 9 where the lower one is current; reap one goes by slots
 pub lower-slot-reaped :
     reaped (reap (id 5)) (ended-twice 2) ∷ reaped (reap (id 5)) (after (reap (id 5)) (ended-twice 2))
     ∷ reaped (reap (id 5)) (ended-twice 1) ∷ reaped reap-one (ended-twice 1) ∷ []
@@ -324,9 +325,9 @@ pub lower-slot-reaped :
 unfolding computed
 lower-slot-reaped = refl
 
--- .. current's too: its id is that of slot current, and oneself in wait is that id
--- 11 looks at slot current, 15 and the owned counts at the lower slot
--- current is Blocked and its id queued; release finds the lower one Ready, and drops it
+-- .. for current's own id too, which is that of slot current; oneself in wait is that id
+-- 11 goes by slot current, 15 and the owned counts by the lower slot
+-- slot current is Blocked, and its id queued; release finds the lower slot Ready, and drops it
 pub lower-slot-of-current :
     seen current-id current-twice ∷ seen (wait (id 5)) current-twice
     ∷ seen exit current-twice ∷ seen (unlock 1) current-twice
@@ -339,8 +340,8 @@ pub lower-slot-of-current :
 unfolding computed
 lower-slot-of-current = refl
 
--- .. in the lowest that is occupied
--- and 10 looks at slot current, not at its id; oneself in wait is the id
+-- .. the lowest that is occupied
+-- 10 goes by slot current, oneself in wait by its id
 pub occupied-slot :
     seen (wake (id 5)) empty-slot
     ∷ seen exit idle-twice ∷ seen (wait (id 0)) idle-twice ∷ []
@@ -349,7 +350,7 @@ pub occupied-slot :
 unfolding computed
 occupied-slot = refl
 
--- reading 19: an emptied slot is all zero
+-- reading 19 of 01: an emptied slot is all zero
 pub emptied-slot :
     slot (after (reap (id 5)) (ended-twice 2)) 1 ∷ slot (after reap-one (ended-twice 2)) 1 ∷ []
     ≡ unoccupied 0 Ready ∷ unoccupied 0 Ready ∷ []
@@ -357,8 +358,8 @@ unfolding computed
 emptied-slot = refl
 
 -- .. and so are the places behind the ids of a queue that release, signal, unlock or a tick has shortened
--- acquire leaves them: its id is put before them, and was not in the queue
-pub emptied-places :
+-- acquire leaves them; its id, which stood there, was not in the queue
+pub zero-places :
     places (semaphore (after (release 0) filled-behind) 0 .waiters)
     ∷ places (event (after (signal 0) filled-behind) 0 .waiters)
     ∷ places (mutex (after (unlock 1) filled-behind) 1 .waiters)
@@ -370,11 +371,11 @@ pub emptied-places :
     ∷ (2 ∷ 8 ∷ 6 ∷ 0 ∷ 0 ∷ 0 ∷ 0 ∷ 0 ∷ 0 ∷ [])
     ∷ (4 ∷ 8 ∷ 5 ∷ 6 ∷ 7 ∷ 7 ∷ 7 ∷ 7 ∷ 7 ∷ []) ∷ []
 unfolding computed
-emptied-places = refl
+zero-places = refl
 
 -- reading 39 of 02: an owner is looked up, in the lower slot
 -- a task waits where its own id stands, so both lend that are Blocked
--- at a mutex of its own it lends to itself alone; 5 in slot 2 lends to slot 1, and so does 7 once it waits there
+-- 5 in slot 1, at its own mutex, is a ring of one; 5 in slot 2 lends to it, and so does 7 once it waits there
 -- an id behind those that wait is not in the queue
 pub ranks-by-id :
     ranks owner-twice
