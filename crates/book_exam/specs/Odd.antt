@@ -50,7 +50,7 @@ stackOf i = record { start = 8128 + 64 * i; size = 64 }
 abbrev pub task : ℕ → ℕ → ℕ → TaskState → Kernel → Kernel
 task i a p s k = at i (λ _. withState s (newTask (id a) (record { 0 = p }) (stackOf i))) k
 
--- fresh but for tasks, n with idle; started, with slot c current
+-- fresh but for tasks, which are n with idle; started, slot c being current
 abbrev pub started : ℕ → ℕ → (Kernel → Kernel) → Kernel
 started n c tasks = withStarted true (withCurrent c (withTaskCount n (withNextId 9 (tasks (freshKernel 1000 4096)))))
 
@@ -129,7 +129,7 @@ unoccupied a s =
 pub empty-slot : Kernel
 empty-slot = at 1 (λ _. unoccupied 5 Blocked) (started 3 3 (λ k. task 3 7 200 Running (task 2 5 100 Blocked k)))
 
--- slot 1 holds id 0 too, and runs
+-- slot 1 holds id 0 too, and its task runs
 pub idle-twice : Kernel
 idle-twice = started 2 1 (task 1 0 128 Running)
 
@@ -161,6 +161,7 @@ waiter-twice s t =
 pub own-mutex : TaskState → Kernel
 own-mutex t = withMutex 0 (mutexOf true (Some (id 5)) None (line (5 ∷ []) 0)) (twice Blocked t 3 Running 3)
 
+-- all that are given
 pub kernels : List Kernel
 kernels =
     owner-fields ∷ four-owned ∷ with-slice 5 0 ∷ with-slice 0 0 ∷ with-slice 0 2
@@ -242,6 +243,7 @@ computed = tt
 
 -- ---- the cases
 
+-- each of them is whole
 pub are-whole : every (map whole kernels) ≡ true
 unfolding kernels computed
 are-whole = refl
