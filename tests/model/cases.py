@@ -1,8 +1,8 @@
-"""The cases of tests/cases: lists from fresh with answers worked out by hand from documents 01, 02, 04 and 05. Each is held against
+"""The cases of tests/cases: lists from fresh with answers worked out by hand from documents 01 to 05. Each is held against
 the model and, where a call is in the compared domain, against the Rust; of other lines the reference has to say 01's number. At
 a release or signal that drops a head which is not Blocked it has to say W-201, at a wait with a limit W-202, at a lock after which a
 mutex has a queue W-205; from there on the list is held to the model alone. So are the lists of `late` and of `odd`, since no list brings the
-Rust to that tick, and its kernel has no charges. At milliseconds from ticks it has to say W-204; the call alters nothing, and the Rust plays
+Rust to that tick or to those kernels. At milliseconds from ticks it has to say W-204; the call alters nothing, and the Rust plays
 the list without it. The tables of tests/cases/README.md have to name these cases, in this order.
 
   cases.py [DIR]    with DIR, also writes each list and what is printed for it: DIR/NAME.in and DIR/NAME.out for `turns`,
@@ -87,10 +87,10 @@ def ranks(*first, retired=0):
 READY, RUNNING, BLOCKED, SLEEPING, SUSPENDED, TERMINATED = range(6)
 
 
-def task(slot, state, left=True, id=None, wake=0, rest=5, owned=0, waiter="-", priority=128):
+def task(slot, state, left=True, id=None, wake=0, rest=5, owned=0, waiter="-", priority=128, full=5, result=0):
     """A slot whose region is that of its number; left: its sp was stored by a switch."""
-    end = 8192 + 64 * slot
-    return f"{slot},{id or slot},{state},{priority},{wake},5,{rest},{owned},{waiter},{end - 64},64,{end - 4 if left else end},0"
+    id, end = slot if id is None else id, 8192 + 64 * slot
+    return f"{slot},{id},{state},{priority},{wake},{full},{rest},{owned},{waiter},{end - 64},64,{end - 4 if left else end},{result}"
 
 
 def idle(state, left=True, owned=0):
@@ -1191,7 +1191,7 @@ late("charges-at-the-last-tick",
 
 # Kernels that no list comes to
 
-# By hand, for each of model.ODD, the charges and the retired sum added up, and whether that is at most tick_count. In 64 bits the sums from
+# By hand, for each of model.CHARGED, the charges and the retired sum added up, and whether that is at most tick_count. In 64 bits the sums from
 # 2^64 on would wrap: 2^64 to 0, 17 * (2^64 - 1) to 2^64 - 17, 2^64 + 5 to 5.
 SUMS = [(0, True), (10, True), (11, False), (10, False), (10, True), (11, False), (10, True), (11, False), (11, False), (11, False), (17, True),
         (17, False), (2**64 - 1, True), (2**64 - 1, True), (2**64, False), (2**64, False), (2**64 - 1, True), (2**64, False),
@@ -1200,7 +1200,7 @@ SUMS = [(0, True), (10, True), (11, False), (10, False), (10, True), (11, False)
 
 def looked_at(hz, added_up, whole):
     """The n-th kernel: the calls by which `tables` looks at each kernel anew are 1, or are accepted; current id is 2 then."""
-    tick, charges, retired = model.ODD[hz - 1]
+    tick, charges, retired = model.CHARGED[hz - 1]
     assert sum(charges.values()) + retired == added_up
     after = table([UNTOUCHED], f"{tick},0,0,1,1", charges=",".join(str(charges.get(at, 0)) for at in range(16)), retired=retired)
     return [(fresh(hz), ok(0, 0), after), (CURRENT_ID, no(2 if whole else 1, 0), after),
@@ -1227,6 +1227,166 @@ odd("retired-sum-of-64-bits",
     (EXIT, ok(0, 1)), (switch(0), ok(0, 0)),
     (REAP(1), ok(0x2000, 0), table([idle(RUNNING, left=False)], "18446744073709551608,1,0,1,2", retired=18446744073709551606)),
     (result(0, 0), ok(0, 0)), (CURRENT_ID, ok(0, 0)))
+
+
+# The kernels of crates/book_exam/specs/Odd.antt, by their names. Of their stacks idle's alone is painted, so only idle is switched from.
+def given(name): return fresh(1 + [odd.name for odd in model.ODD].index(name))
+
+
+def five(state, slot=1, **more): return task(slot, state, left=False, id=5, priority=128 if slot == 1 else 100, **more)
+def seven(state, slot=3, priority=200, **more): return task(slot, state, left=False, id=7, priority=priority, **more)
+
+
+def locks(**some):
+    """Mutexes, by number as m0 to m3; the others as fresh makes them."""
+    return " ".join(some.get(f"m{k}", "0,-,-,[]") + ";" for k in range(4))
+
+
+# Its own count is 1. Locked without an owner are 0 and 1, which is handed to it; it is the owner of 2, which is not locked, and of 3.
+def owner_fields(state, owned=1, rest=5, m0="1,-,-,[]", m1="1,-,5,[]", m2="0,5,-,[]"):
+    return table([UNTOUCHED, five(state, owned=owned, rest=rest)], "0,1,1,2,9", locks(m0=m0, m1=m1, m2=m2, m3="1,5,6,[]"))
+
+
+odd("owner-and-owned-count",
+    "11 is an owned count above 0, whoever the owner is; 14 compares the owner, locked or not; locked without an owner is another's (03, 14)",
+    (given("owner-fields"), ok(0, 1), owner_fields(RUNNING)),
+    *[(call, no(number, 1), owner_fields(RUNNING)) for call, number in ((EXIT, 11), (UNLOCK(0), 14), (UNLOCK(1), 14), (LOCK(3), 13))],
+    (TRY_LOCK(0), ok(0, 1), owner_fields(RUNNING)), (TRY_LOCK(1), ok(0, 1), owner_fields(RUNNING)),
+    (LOCK(0), ok(0, 1), owner_fields(BLOCKED, m0="1,-,-,[5]")),
+    (LOCK(1), ok(0, 1), owner_fields(BLOCKED, m0="1,-,-,[5]", m1="1,-,5,[5]")),
+    (UNLOCK(2), ok(0, 1), owner_fields(BLOCKED, 0, m0="1,-,-,[5]", m1="1,-,5,[5]", m2="0,-,-,[]")),
+    (UNLOCK(3), no(15, 1)), (UNLOCK(2), no(14, 1)),
+    (EXIT, ok(0, 1), owner_fields(TERMINATED, 0, 0, "1,-,-,[5]", "1,-,5,[5]", "0,-,-,[]")))
+
+# Task 5 runs and 7 waits at its mutex 3, both with a count of 4.
+def four_owned(first=4, second=4, state=BLOCKED, m0="0,-,-,[]", m3="1,5,-,[7]"):
+    return table([UNTOUCHED, five(RUNNING, owned=first), seven(state, 2, 128, owned=second)], "0,1,1,3,9", locks(m0=m0, m3=m3))
+
+
+odd("owned-count-of-5",
+    "A lock, a try lock and a handoff that raise an owned count of 4 to 5 are accepted; the kernel is not whole then: the next call is 1 (03, 15)",
+    *[call for raised, after in ((LOCK(0), four_owned(5, m0="1,5,-,[]")), (TRY_LOCK(0), four_owned(5, m0="1,5,-,[]")),
+                                 (UNLOCK(3), four_owned(3, 5, READY, m3="1,7,7,[]")))
+      for call in ((given("four-owned"), ok(0, 1), four_owned()), (CURRENT_ID, ok(5, 1)), (raised, ok(1, 1), after),
+                   *[(call, no(1, 1), after) for call in (CURRENT_ID, records(3), result(5, 0), milliseconds(0))])])
+
+
+def sliced(ticks, full, rest):
+    return table([UNTOUCHED, five(RUNNING, full=full, rest=rest)], f"{ticks},1,1,2,9", charges=f"0,{ticks}")
+
+
+odd("slice-of-0",
+    "Running with 0 remaining: a tick makes the slice full and wants a switch; a slice of 0 stays 0, and each tick wants one (03, 17)",
+    (given("with-slice 5 0"), ok(0, 1), sliced(0, 5, 0)), (TICK, ok(1, 1), sliced(1, 5, 5)), (TICK, ok(0, 1), sliced(2, 5, 4)),
+    (given("with-slice 0 0"), ok(0, 1), sliced(0, 0, 0)), (TICK, ok(1, 1), sliced(1, 0, 0)), (TICK, ok(1, 1), sliced(2, 0, 0)),
+    (given("with-slice 0 2"), ok(0, 1), sliced(0, 0, 2)), (TICK, ok(0, 1), sliced(1, 0, 1)), (TICK, ok(1, 1), sliced(2, 0, 0)),
+    (TICK, ok(1, 1), sliced(3, 0, 0)))
+
+# Slots 1 and 2 hold id 5, Blocked, slot 3 id 7, which runs; 5 waits at its mutex 0, lending it 100, at semaphore 0 and for its exit.
+def both_blocked(first=BLOCKED, third=RUNNING, owned=(0, 1), waiters=("-", "5"), m0="1,7,-,[5]", s0="0,[5]", result=0, rest=5, lent={3: 100}):
+    return table([UNTOUCHED, five(first, owned=owned[0], waiter=waiters[0], result=result), five(BLOCKED, 2),
+                  seven(third, owned=owned[1], waiter=waiters[1], rest=rest)], "0,1,3,4,9", locks(m0=m0), objects(o0=s0), lent=lent)
+
+
+odd("id-in-two-slots",
+    "Wake, a head that is dropped, reap, result, handoff, exit's waiter and wait mean the lower slot, though the other is Blocked (03, 18)",
+    (given("both-blocked"), ok(0, 3), both_blocked()), (WAKE(5), ok(1, 3), both_blocked(READY)), (WAKE(5), ok(0, 3), both_blocked(READY)),
+    (RELEASE(0), ok(0, 3), both_blocked(READY, s0="1,[]")), (REAP(5), no(9, 3)), (result(5, 9), ok(0, 3), both_blocked(READY, s0="1,[]", result=9)),
+    (UNLOCK(0), ok(1, 3), both_blocked(READY, owned=(1, 0), m0="1,5,5,[]", s0="1,[]", result=9, lent={})),
+    (EXIT, ok(0, 3), both_blocked(READY, TERMINATED, (1, 0), ("-", "-"), "1,5,5,[]", "1,[]", 9, 0, {})),
+    (given("both-blocked"), ok(0, 3)), (RELEASE(0), ok(1, 3), both_blocked(READY, s0="1,[]")),
+    (given("both-blocked"), ok(0, 3)), (UNLOCK(0), ok(1, 3), both_blocked(READY, owned=(1, 0), m0="1,5,5,[]", lent={})),
+    (given("both-blocked"), ok(0, 3)), (WAIT(5), ok(0, 3), both_blocked(third=BLOCKED, waiters=("7", "5"))))
+
+# Slot 2, which is current, holds id 5 and has a count of 1; so does slot 1, with 0. 5 is the owner of mutex 1.
+def current_twice(second=RUNNING, owned=0, m0="0,-,-,[]", m1="1,5,-,[]", s0="0,[]"):
+    return table([UNTOUCHED, five(READY, owned=owned), five(second, 2, owned=1), seven(READY)], "0,1,2,4,9", locks(m0=m0, m1=m1), objects(o0=s0))
+
+
+odd("id-of-current-in-two-slots",
+    "Current in the higher slot: wait for its id is 7; 11 looks at slot current, 15 and the owned counts go by the lower; so does release (03, 18)",
+    (given("current-twice"), ok(0, 2), current_twice()), (CURRENT_ID, ok(5, 2)), (WAIT(5), no(7, 2)), (EXIT, no(11, 2)),
+    (UNLOCK(1), no(15, 2), current_twice()), (LOCK(0), ok(1, 2), current_twice(owned=1, m0="1,5,-,[]")),
+    (UNLOCK(1), ok(0, 2), current_twice(m0="1,5,-,[]", m1="0,-,-,[]")), (EXIT, no(11, 2)), (UNLOCK(0), no(15, 2)),
+    (ACQUIRE(0), ok(0, 2), current_twice(BLOCKED, m0="1,5,-,[]", m1="0,-,-,[]", s0="0,[5]")),
+    (RELEASE(0), ok(0, 2), current_twice(BLOCKED, m0="1,5,-,[]", m1="0,-,-,[]", s0="1,[]")), (WAKE(5), ok(0, 2)))
+
+# Slots 1 and 2 hold id 5 and have ended; in slot 1 every field has something left.
+LEFT = five(TERMINATED, wake=9, owned=2, waiter="7", result=-1)
+
+
+def ended_twice(slots, scheduler, limits={}): return table([UNTOUCHED, *slots, seven(READY)], f"0,1,{scheduler}", limits=limits)
+
+
+odd("reap-of-an-id-in-two-slots",
+    "Reap means the lower slot, and is 9 where that is current; the next task there has nothing of what was left; reap one (03, 18, 19)",
+    (given("ended-twice 2"), ok(0, 2), ended_twice([LEFT, five(TERMINATED, 2)], "2,4,9", {1: "-,-,-,1"})),
+    (REAP(5), ok(8192, 2), ended_twice([five(TERMINATED, 2)], "2,3,9")), (REAP(5), no(9, 2)),
+    (add(0, 77), ok(9, 2), ended_twice([task(1, READY, left=False, id=9, priority=77), five(TERMINATED, 2)], "2,4,10")),
+    (given("ended-twice 2"), ok(0, 2)), (REAP_ONE, ok(8192, 2), ended_twice([five(TERMINATED, 2)], "2,3,9")),
+    (given("ended-twice 1"), ok(0, 1), ended_twice([LEFT, five(TERMINATED, 2)], "1,4,9", {1: "-,-,-,1"})),
+    (REAP(5), no(9, 1)), (REAP_ONE, ok(8256, 1), ended_twice([LEFT], "1,3,9", {1: "-,-,-,1"})), (REAP(5), no(9, 1)))
+
+
+def empty_slot(state, scheduler, *first, third=RUNNING, **more):
+    return table([UNTOUCHED, *first, five(state, 2, **more), seven(third)], f"0,1,3,{scheduler}")
+
+
+odd("id-in-an-empty-slot",
+    "Id 5 and Blocked are left in slot 1, which is empty: wake, result, reap and wait mean slot 2, which holds 5 (03, 18)",
+    (given("empty-slot"), ok(0, 3), empty_slot(BLOCKED, "3,9")), (WAKE(5), ok(1, 3), empty_slot(READY, "3,9")),
+    (result(5, 9), ok(0, 3), empty_slot(READY, "3,9", result=9)), (REAP(5), no(9, 3)),
+    (add(0, 77), ok(9, 3), empty_slot(READY, "4,10", task(1, READY, left=False, id=9, priority=77), result=9)),
+    (WAIT(5), ok(0, 3), empty_slot(READY, "4,10", task(1, READY, left=False, id=9, priority=77), third=BLOCKED, result=9, waiter="7")))
+
+odd("id-of-idle-in-another-slot",
+    "Id 0 in slot 1 may exit, since 10 is of slot 0; its wait for 0 is 7; wake, result and reap of 0 mean slot 0 (01, Traps; 03, 18)",
+    (given("idle-twice"), ok(0, 1), table([UNTOUCHED, task(1, RUNNING, left=False, id=0)], "0,1,1,2,9")),
+    (CURRENT_ID, ok(0, 1)), (WAIT(0), no(7, 1)), (BLOCK, ok(0, 1)), (WAKE(0), ok(0, 1)),
+    (result(0, 9), ok(0, 1), table([UNTOUCHED[:-1] + "9", task(1, BLOCKED, left=False, id=0)], "0,1,1,2,9")),
+    (EXIT, ok(0, 1), table([UNTOUCHED[:-1] + "9", task(1, TERMINATED, left=False, id=0, rest=0)], "0,1,1,2,9")),
+    (REAP(0), no(9, 1)), (REAP_ONE, ok(NONE, 1)))
+
+# Behind the ids of each queue stands 7, the id of current. 5 waits at mutex 1, of 7, and at semaphore 1 with a limit.
+def filled(first=BLOCKED, second=RUNNING, ticks=0, owned=(1, 1), rest=5, limit="s,1,1,0", lent={}, m0="1,5,-,[]", m1="1,7,-,[5 6]", s0="0,[8 5 6]",
+           s1="0,[8 5 6]", e0="0,[8 5 6]"):
+    return table([UNTOUCHED, five(first, owned=owned[0]), seven(second, 2, 100, owned=owned[1], rest=rest)], f"{ticks},1,2,3,9", locks(m0=m0, m1=m1),
+                 objects(o0=s0, o1=s1), objects(o0=e0), f"0,0,{ticks}", {1: limit}, lent)
+
+
+odd("places-behind-a-queue",
+    "An id behind the last one of a queue is not in it, for acquire, lock and ranks, and moves up with no release, signal, unlock or tick (03, 19)",
+    (given("filled-behind"), ok(0, 2), filled()),
+    (ACQUIRE(0), ok(0, 2), filled(second=BLOCKED, s0="0,[8 5 6 7]")),
+    (RELEASE(0), ok(1, 2), filled(READY, BLOCKED, limit="-,-,-,0", s0="1,[6 7]")),
+    (SIGNAL(0), ok(0, 2), filled(READY, BLOCKED, limit="-,-,-,0", s0="1,[6 7]", e0="1,[]")),
+    (given("filled-behind"), ok(0, 2)), (SIGNAL(0), ok(1, 2), filled(READY, limit="-,-,-,0", e0="0,[6]")),
+    (UNLOCK(1), ok(1, 2), filled(READY, owned=(2, 0), limit="-,-,-,0", m1="1,5,5,[6]", e0="0,[6]")),
+    (given("filled-behind"), ok(0, 2)), (TICK, ok(1, 2), filled(READY, ticks=1, rest=4, limit="-,-,-,1", s1="0,[8 6]")),
+    (LOCK(0), ok(0, 2), filled(READY, BLOCKED, 1, rest=4, limit="-,-,-,1", lent={1: 100}, m0="1,5,-,[7]", s1="0,[8 6]")))
+
+
+# Slots 1 and 2 hold id 5, at 128 and 100, slot 3 id 7.
+def ranked(first, second, third, m0, lent, priority=200, current=0, left=False):
+    """Left: idle was switched from."""
+    slots = [idle(READY if current else RUNNING, left), five(first), five(second, 2), seven(third, priority=priority)]
+    return table(slots, f"0,1,{current},4,9", locks(m0=m0), lent=lent)
+
+
+odd("ranks-by-id",
+    "The owner is the lower slot; both slots of a queued id lend, each if it is Blocked; queued at its own mutex a task is a ring of one (05, 39)",
+    (given("owner-twice"), ok(0, 0), ranked(READY, READY, BLOCKED, "1,5,-,[7]", {1: 3}, 3)),
+    (IDLE, ok(1, 1), ranked(RUNNING, READY, BLOCKED, "1,5,-,[7]", {1: 3}, 3, 1, True)),
+    (given("waiter-twice Blocked Blocked"), ok(0, 0), ranked(BLOCKED, BLOCKED, READY, "1,7,-,[5]", {3: 100})),
+    (WAKE(5), ok(1, 0), ranked(READY, BLOCKED, READY, "1,7,-,[5]", {3: 100})),
+    (IDLE, ok(3, 3), ranked(READY, BLOCKED, RUNNING, "1,7,-,[5]", {3: 100}, current=3, left=True)),
+    (given("waiter-twice Ready Blocked"), ok(0, 0), ranked(READY, BLOCKED, READY, "1,7,-,[5]", {3: 100})), (WAKE(5), ok(0, 0)),
+    (given("waiter-twice Blocked Ready"), ok(0, 0), ranked(BLOCKED, READY, READY, "1,7,-,[5]", {3: 128})),
+    (WAKE(5), ok(1, 0), ranked(READY, READY, READY, "1,7,-,[5]", {})),
+    (given("own-mutex Ready"), ok(0, 3), ranked(BLOCKED, READY, RUNNING, "1,5,-,[5]", {}, 3, 3)),
+    (LOCK(0), ok(0, 3), ranked(BLOCKED, READY, BLOCKED, "1,5,-,[5 7]", {1: 3}, 3, 3)),
+    (given("own-mutex Blocked"), ok(0, 3), ranked(BLOCKED, BLOCKED, RUNNING, "1,5,-,[5]", {1: 100}, 3, 3)),
+    (WAKE(5), ok(1, 3), ranked(READY, BLOCKED, RUNNING, "1,5,-,[5]", {1: 100}, 3, 3)))
 
 
 def played(program, lines):

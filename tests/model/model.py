@@ -7,24 +7,23 @@ author had read the published Rust too.
   model.py replay   lists of `tables` parted by `new`; prints as the reference does: tables without charges, limits,
                     ranks and the retired sum, the values of wake, release and signal as 0
 
-Every refusal that a list from fresh can meet is there, and those that only other kernels can meet (6, 15, 18, 19) too; 1 by the charges alone
-(ODD). After every line W-206's law is asserted: see Machine.adds_up."""
+Every refusal that a list from fresh can meet is there, and those that only other kernels can meet (6, 15, 18, 19) too; 1 by the charges and
+the owned counts alone (ODD). After every line W-206's law is asserted: see Machine.adds_up."""
 import sys
 from collections import Counter
 
 READY, RUNNING, BLOCKED, SLEEPING, SUSPENDED, TERMINATED, EMPTY = range(7)
-SLOTS, OBJECTS, PLACES, SLICE, LINKS = 16, 4, 8, 5, 16
+SLOTS, OBJECTS, PLACES, SLICE, LINKS, OWNED = 16, 4, 8, 5, 16, 4
 PAINT = 0xDEADBEEF
 U32 = 0xFFFFFFFF
 U64 = 0xFFFFFFFFFFFFFFFF
 LATE = U64 - 12      # for tests of the last ticks: where a fresh kernel begins in them
-# For tests of kernels that no list from fresh comes to: tick_count, charges by slot and retired sum that fresh with hz n gives in them, n being
-# the place, from 1.
-ODD = [(0, {}, 0), (10, {0: 1, 1: 2, 15: 3}, 4), (10, {0: 1, 1: 2, 15: 3}, 5), (9, {0: 1, 1: 2, 15: 3}, 4), (10, {}, 10), (10, {}, 11),
-       (10, {7: 10}, 0), (10, {7: 11}, 0), (10, {15: 1}, 10), (10, {0: 10, 15: 1}, 0), (17, {at: 1 for at in range(16)}, 1),
-       (16, {at: 1 for at in range(16)}, 1), (U64, {0: U64}, 0), (U64, {}, U64), (U64, {0: U64}, 1), (U64, {0: 1 << 63, 1: 1 << 63}, 0),
-       (U64, {at: (1 << 60) - 1 for at in range(16)}, 15), (U64, {at: (1 << 60) - 1 for at in range(16)}, 16),
-       (U64, {at: U64 for at in range(16)}, U64), (5, {0: U64, 1: 6}, 0), (10, {1: 3, 2: 4}, 2), (U64 - 9, {}, U64 - 11)]
+# For tests of kernels that no list from fresh comes to (ODD): tick_count, charges by slot and retired sum.
+CHARGED = [(0, {}, 0), (10, {0: 1, 1: 2, 15: 3}, 4), (10, {0: 1, 1: 2, 15: 3}, 5), (9, {0: 1, 1: 2, 15: 3}, 4), (10, {}, 10), (10, {}, 11),
+           (10, {7: 10}, 0), (10, {7: 11}, 0), (10, {15: 1}, 10), (10, {0: 10, 15: 1}, 0), (17, {at: 1 for at in range(16)}, 1),
+           (16, {at: 1 for at in range(16)}, 1), (U64, {0: U64}, 0), (U64, {}, U64), (U64, {0: U64}, 1), (U64, {0: 1 << 63, 1: 1 << 63}, 0),
+           (U64, {at: (1 << 60) - 1 for at in range(16)}, 15), (U64, {at: (1 << 60) - 1 for at in range(16)}, 16),
+           (U64, {at: U64 for at in range(16)}, U64), (5, {0: U64, 1: 6}, 0), (10, {1: 3, 2: 4}, 2), (U64 - 9, {}, U64 - 11)]
 
 
 def ms_to_ticks(hz, ms):
@@ -138,8 +137,9 @@ class Kernel:
     # Help
 
     def whole(self):
-        """As 02 has it: all sixteen charges and the retired sum are at most tick_count. What else 01 asks is so of every kernel here."""
-        return sum(self.charges) + self.retired <= self.tick_count
+        """As 02 has it: all sixteen charges and the retired sum are at most tick_count; owned counts are at most 4. What else 01 asks is so
+        of every kernel here."""
+        return sum(self.charges) + self.retired <= self.tick_count and all(task is None or task.owned <= OWNED for task in self.slots)
 
     def own(self):
         return self.slots[self.current]
@@ -418,7 +418,7 @@ class Kernel:
     def take(self, mutex):
         mutex.locked = True
         mutex.owner = self.own().id
-        self.own().owned += 1
+        self.slots[self.find(mutex.owner)].owned += 1       # by id, the lower slot of two (03, 18)
         return 0, 1
 
     def lock(self, k):
@@ -455,12 +455,13 @@ class Kernel:
             return 20, 0
         if not self.started:
             return 2, 0
-        mutex, own = self.mutexes[k], self.own()
-        if mutex.owner != own.id:
+        mutex, id = self.mutexes[k], self.own().id
+        if mutex.owner != id:
             return 14, 0
-        if own.owned == 0:
+        counted = self.slots[self.find(id)]     # by id, the lower slot of two (03, 18)
+        if counted.owned == 0:
             return 15, 0
-        own.owned -= 1
+        counted.owned -= 1
         if mutex.queue:
             next = mutex.queue.pop(0)
             mutex.locked = True
@@ -587,6 +588,79 @@ class Kernel:
         return " | ".join(parts)
 
 
+class Odd:
+    """For tests: a kernel that no list from fresh comes to; where nothing is said it is as fresh. By slot charges and tasks: id, number,
+    state and what else is not a new task's; the regions lie in the order of the slots. Started if a slot is current. By number mutexes:
+    locked, owner, handed to, ids that wait; semaphores and events: the ids. What nothing may look at, the model has not: a limit's tick
+    without a limit, an id and a state left in an empty slot, and the id that stands at every place behind those that wait."""
+
+    def __init__(self, name, tick=0, charges={}, retired=0, tasks={}, current=None, mutexes={}, semaphores={}, events={}, left={}, behind=0):
+        self.name, self.tick, self.charges, self.retired, self.tasks, self.current = name, tick, charges, retired, tasks, current
+        self.mutexes, self.semaphores, self.events, self.left, self.behind = mutexes, semaphores, events, left, behind
+        self.next_id = 1 if current is None else 9
+
+    @staticmethod
+    def region(at):
+        return (8128 + 64 * at, 64) if at else (0, 8192)
+
+    def give(self, kernel):
+        """A fresh kernel becomes this one."""
+        kernel.tick_count, kernel.retired, kernel.next_id = self.tick, self.retired, self.next_id
+        kernel.charges = [self.charges.get(at, 0) for at in range(SLOTS)]
+        if self.current is not None:
+            kernel.started, kernel.current = True, self.current
+        for at, (id, priority, state, more) in self.tasks.items():
+            kernel.slots[at] = task = Task(id, priority, *self.region(at), SLICE if at else 1)
+            task.state = state
+            for field, value in more.items():
+                if field != "limit_tick":
+                    setattr(task, field, value)
+        kernel.task_count = sum(task is not None for task in kernel.slots)
+        for k, (locked, owner, handoff_to, queue) in self.mutexes.items():
+            mutex = kernel.mutexes[k]
+            mutex.locked, mutex.owner, mutex.handoff_to, mutex.queue = locked, owner, handoff_to, [*queue]
+        for objects, queues in ((kernel.semaphores, self.semaphores), (kernel.events, self.events)):
+            for k, queue in queues.items():
+                objects[k].queue = [*queue]
+
+
+def with_slice(name, time_slice, remaining):
+    return Odd(name, tasks={1: (5, 128, RUNNING, {"time_slice": time_slice, "remaining": remaining})}, current=1)
+
+
+def twice(name, first, second, priority, third, current, more=({}, {}, {}), **objects):
+    """Slots 1 and 2 hold id 5, slot 3 id 7, in these states."""
+    tasks = {1: (5, 128, first, more[0]), 2: (5, 100, second, more[1]), 3: (7, priority, third, more[2])}
+    return Odd(name, tasks=tasks if current else {0: (0, 255, RUNNING, {}), **tasks}, current=current, **objects)
+
+
+# What fresh with hz n gives in such tests, n being the place, from 1: CHARGED, then the kernels of crates/book_exam/specs/Odd.antt, by their
+# names.
+ODD = [Odd("charged", *given) for given in CHARGED]
+ODD += [
+    Odd("owner-fields", tasks={1: (5, 128, RUNNING, {"owned": 1})}, current=1,
+        mutexes={0: (True, None, None, []), 1: (True, None, 5, []), 2: (False, 5, None, []), 3: (True, 5, 6, [])}),
+    Odd("four-owned", tasks={1: (5, 128, RUNNING, {"owned": 4}), 2: (7, 128, BLOCKED, {"owned": 4})}, current=1, mutexes={3: (True, 5, None, [7])}),
+    with_slice("with-slice 5 0", 5, 0), with_slice("with-slice 0 0", 0, 0), with_slice("with-slice 0 2", 0, 2),
+    twice("both-blocked", BLOCKED, BLOCKED, 200, RUNNING, 3, ({}, {}, {"owned": 1, "waiter": 5}),
+          mutexes={0: (True, 7, None, [5])}, semaphores={0: [5]}),
+    twice("current-twice", READY, RUNNING, 200, READY, 2, ({}, {"owned": 1}, {}), mutexes={1: (True, 5, None, [])})]
+ODD += [
+    twice(f"ended-twice {current}", TERMINATED, TERMINATED, 200, READY, current,
+          ({"wake_tick": 9, "owned": 2, "waiter": 7, "result": -1, "ended": True, "limit_tick": 9}, {}, {})) for current in (1, 2)]
+ODD += [
+    Odd("empty-slot", tasks={2: (5, 100, BLOCKED, {}), 3: (7, 200, RUNNING, {})}, current=3, left={1: (5, BLOCKED)}),
+    Odd("idle-twice", tasks={1: (0, 128, RUNNING, {})}, current=1),
+    Odd("filled-behind", tasks={1: (5, 128, BLOCKED, {"owned": 1, "limit": ("s", 1, 1)}), 2: (7, 100, RUNNING, {"owned": 1})}, current=2, behind=7,
+        mutexes={0: (True, 5, None, []), 1: (True, 7, None, [5, 6])}, semaphores={0: [8, 5, 6], 1: [8, 5, 6]}, events={0: [8, 5, 6]}),
+    twice("owner-twice", READY, READY, 3, BLOCKED, 0, mutexes={0: (True, 5, None, [7])}),
+    twice("waiter-twice Blocked Blocked", BLOCKED, BLOCKED, 200, READY, 0, mutexes={0: (True, 7, None, [5])}),
+    twice("waiter-twice Ready Blocked", READY, BLOCKED, 200, READY, 0, mutexes={0: (True, 7, None, [5])}),
+    twice("waiter-twice Blocked Ready", BLOCKED, READY, 200, READY, 0, mutexes={0: (True, 7, None, [5])}),
+    twice("own-mutex Ready", BLOCKED, READY, 3, RUNNING, 3, mutexes={0: (True, 5, None, [5])}),
+    twice("own-mutex Blocked", BLOCKED, BLOCKED, 3, RUNNING, 3, mutexes={0: (True, 5, None, [5])})]
+
+
 def fresh(hz, arena):
     """(number, kernel); the blank kernel is given as None."""
     if not 2048 <= len(arena) <= 16384:
@@ -661,8 +735,7 @@ class Machine:
             kernel.tick_count = self.tick
             self.ticks = 0      # accepted after the start
             if self.odd and hz <= len(ODD):
-                kernel.tick_count, charges, kernel.retired = ODD[hz - 1]
-                kernel.charges = [charges.get(at, 0) for at in range(SLOTS)]
+                ODD[hz - 1].give(kernel)
         return number, 0
 
     def list(self, lent):
