@@ -52,7 +52,7 @@ pub reused : Reused
 unfolding computed
 reused = record { stretch = refl; falls = (refl, refl); counted = (refl, refl); adds-up = (refl, refl, refl) }
 
-run-returned : (k : Kernel) (cs : List Call) → Returned k (run k cs)
+pub run-returned : (k : Kernel) (cs : List Call) → Returned k (run k cs)
 run-returned k [] = tt
 run-returned k (c ∷ cs) = (refl, run-returned (step k c .kernel) cs)
 
