@@ -6,56 +6,52 @@ use Prim.Native.Nat.{ℕ, zero, suc, _+_, min, _≤_, _<_}
 use native.Mathlib.Omega.{arith}
 use lib.ListN.{take, drop}
 use borrow.Author.Tests.{eqb-true, ltb-true, leb-true}
-use Rattle.base.specs.Choice.{if_then_else_, every}
-use Rattle.base.specs.Below.{allBelow, anyBelow, countBelow, sumBelow, lowestBelow, smallestBelow, tabulate}
 use Rattle.base.proofs.Choices.{and-left, and-right}
 use Rattle.kernel.specs.declared.control.LimitObject.{LimitObject}
 use Rattle.kernel.specs.declared.control.LimitObject.the-variants.{AtSemaphore, AtEvent}
 use Rattle.kernel.specs.declared.scheduler.Kernel.{Kernel}
 use Rattle.kernel.specs.declared.scheduler.Answer.{Answer}
 use Rattle.kernel.specs.declared.scheduler.Value.the-variants.{YesNo}
-use Rattle.kernel.specs.Control.{holdsTask, hasLimit, unblocked, regionFits, regionsOverlap, stackGuardOk, spInRange}
-use Rattle.kernel.specs.WaitQueue.{position, pushed, enqueued, placeWithout, without, popped, removed}
-use Rattle.kernel.specs.Kernel.{slot, current, slotOf, arenaFits, whole, freshKernel, atId}
-use Rattle.kernel.specs.Rank.{link, chain, leadsTo, rank}
-use Rattle.kernel.specs.Scheduler.{isBest, pick, lowestEmpty, overlapsPresent, dropHeads, isDue, isLimitDue, visited, walked, clocked, advanced, sliced, wants, wantsSwitch, contextSaved, reloaded}
-use Rattle.kernel.specs.Scheduler
+use Rattle.kernel.specs.Control.{hasLimit}
+use Rattle.kernel.specs.WaitQueue.{removed}
+use Rattle.kernel.specs.Kernel.{slot, current}
+use Rattle.kernel.specs.Scheduler.{dropHeads}
 use Rattle.kernel.specs.Semaphore
 use Rattle.kernel.specs.Event
-use Rattle.kernel.specs.Calls.{Call, tick, wake, acquire-within, event-wait-within, release, signal, number, value, effect, valueNumber, step, init, initNumber, Reached, fresh, called}
-use Rattle.book_guarantees.specs.Lists.{Entry, after, Returned, outcomeOf, outcome, acceptedTicks}
+use Rattle.kernel.specs.Calls.{Call, acquire-within, event-wait-within, release, signal, step, init, initNumber, Reached, fresh, called}
+use Rattle.book_guarantees.specs.Lists.{Entry, after, Returned, acceptedTicks}
 use Rattle.book_guarantees.specs.Wakings.{OneReady, OneWoken, releasing, signalling, Wakings}
 use Rattle.book_guarantees.specs.Limits.{lastTick, WithLimit, acquiring, waiting, Keeps, EndsWithin}
 use Rattle.book_guarantees.proofs.TurnGuarantee.{turn-guarantee}
 use Rattle.book_guarantees.proofs.Wakings.{wake-guarantee}
 use Rattle.book_guarantees.proofs.Limits.{limit-guarantee}
 use Rattle.book_examples.specs.Tests.{each, entry, between}
-use Rattle.book_examples.specs.Examples.{run, played, arena, id}
-use Rattle.book_examples.specs.Waits.{kernel, keeps, own-tick-calls, own-tick, before, OwnTick, earlier-calls, earlier, Earlier, LimitMet, OwnTickLimit, EarlierLimit, AtItsTick, wakings-calls, wakings, woken, acquirers, WakeAnswers, WakingsMet, limit-between-calls, limit-between, one, calls, two, LimitBetween, LimitBetweenFair}
+use Rattle.book_examples.specs.Examples.{run, played, id}
+use Rattle.book_examples.specs.Waits.{kernel, keeps, own-tick-calls, own-tick, before, OwnTick, earlier-calls, earlier, Earlier, LimitMet, OwnTickLimit, EarlierLimit, AtItsTick, wakings-calls, wakings, after-entry, acquirers, WakeAnswers, WakingsMet, limit-between-calls, limit-between, one, calls, two, LimitBetween, LimitBetweenFair}
 use Rattle.book_examples.proofs.Checked.{each-is, stretch-is, unchanging-is, peer-is, peer-unchanging-is}
-use Rattle.book_examples.proofs.Examples.{run-returned}
+use Rattle.book_examples.proofs.Examples.{computed, run-returned}
 
 -- what the figures are computed with
-computed : Unit {0}
-unfolding arena own-tick own-tick-calls earlier earlier-calls wakings wakings-calls limit-between limit-between-calls outcome outcomeOf step number value effect valueNumber init initNumber freshKernel whole arenaFits if_then_else_ every allBelow anyBelow countBelow sumBelow lowestBelow smallestBelow tabulate holdsTask link chain leadsTo rank position pushed enqueued atId placeWithout without popped removed unblocked regionFits regionsOverlap stackGuardOk spInRange slotOf isBest pick lowestEmpty overlapsPresent dropHeads isDue isLimitDue Scheduler.woken visited walked clocked advanced sliced wants wantsSwitch contextSaved reloaded Scheduler.add Scheduler.start Scheduler.tick Scheduler.switch Semaphore.acquire Semaphore.acquireWithin Semaphore.release Event.eventWait Event.eventWaitWithin Event.signal
-computed = tt
+waits-computed : Unit {0}
+unfolding computed own-tick own-tick-calls earlier earlier-calls wakings wakings-calls limit-between limit-between-calls removed dropHeads Semaphore.acquire Semaphore.acquireWithin Semaphore.release Event.eventWait Event.eventWaitWithin Event.signal
+waits-computed = tt
 
 -- ---- the figures
 
 pub own-tick-is : OwnTick
-unfolding computed
-own-tick-is = record { kept-ticks = refl; all-ticks = refl; wants = refl; slice-left = refl; states-before = refl; states-after = refl; limits-before = refl; limits-after = refl; marks-before = refl; marks-after = refl; queue-before = refl; queue-after = refl; other-before = refl; other-after = refl; accepted = refl; due = (record { present = refl; limit = refl }, leb-true _ _ refl); not-due = (record { present = refl; limit = refl }, ltb-true _ _ refl) }
+unfolding waits-computed
+own-tick-is = record { kept-ticks = refl; all-ticks = refl; wants = refl; slice-left = refl; states-before = refl; states-after = refl; limits-before = refl; limits-after = refl; marks-before = refl; marks-after = refl; queue-before = refl; queue-after = refl; other-before = refl; other-after = refl; accepted = refl; due = (record { present = refl; limit = refl }, leb-true _ _ refl); not-due = (record { present = refl; limit = refl }, ltb-true _ _ refl); left = record { present = refl; limit = refl } }
 
 pub earlier-is : Earlier
-unfolding computed
+unfolding waits-computed
 earlier-is = record { kept-ticks = refl; all-ticks = refl; woke = refl; states-at = refl; limits-at = refl; queue-at = refl; mark-at = refl; wants = refl }
 
 pub wake-answers : WakeAnswers
-unfolding computed
-wake-answers = record { wake-yes = refl; wake-no = refl; wake-none = refl; woken-slot = refl; release-yes = refl; release-no = refl; released = (refl, refl); queued = refl; lengths = (refl, refl); counts = refl; signal-yes = refl; signal-no = refl; signalled = (refl, refl); waited = refl; flags = refl; states-woken = refl; states-released = refl; states-signalled = refl }
+unfolding waits-computed
+wake-answers = record { wake-yes = refl; wake-no = refl; wake-none = refl; wakes = (refl, refl); woken-slot = refl; release-yes = refl; release-no = refl; released = (refl, refl); queued = refl; lengths = (refl, refl); counts = refl; signal-yes = refl; signal-no = refl; signalled = (refl, refl); waited = refl; flags = refl; states-woken = refl; states-released = refl; states-signalled = refl }
 
 pub limit-between-is : LimitBetween
-unfolding computed
+unfolding waits-computed
 limit-between-is = record { fresh = refl; stretch = refl; a-peer = refl; wants = refl; states-at = refl; limits-at = refl; mark-at = refl; peer-turn = (refl, refl) }
 
 -- ---- of every list that is played
@@ -123,7 +119,7 @@ unfolding own-tick own-tick-calls
 own-tick-call = refl
 
 pub own-tick-limit : OwnTickLimit
-unfolding computed
+unfolding waits-computed
 own-tick-limit = limit-met own-tick-calls 11 3 3 (AtSemaphore 0) (acquire-within 0 3) 4 9 10 own-tick-call (acquiring 0) refl refl refl refl (ltb-true _ _ refl) (leb-true _ _ refl)
 
 earlier-call : entry earlier 7 .answer ≡ step (kernel earlier 6) (event-wait-within 1 2)
@@ -131,7 +127,7 @@ unfolding earlier earlier-calls
 earlier-call = refl
 
 pub earlier-limit : EarlierLimit
-unfolding computed
+unfolding waits-computed
 earlier-limit = limit-met earlier-calls 6 1 2 (AtEvent 1) (event-wait-within 1 2) 3 2 5 earlier-call (waiting 1) refl refl refl refl (ltb-true _ _ refl) (leb-true _ _ refl)
 
 pub at-its-tick : AtItsTick
@@ -147,15 +143,16 @@ at-its-tick =
       at-tick = at;
       ended = at .due 3 (f .due .0) (f .due .1);
       same = at .not-due 4 (f .not-due .0) (f .not-due .1);
+      ahead = at .ahead 4 (f .left);
     }
 
 -- ---- wake, release and signal
 
-wakings-of : (m : ℕ) → Wakings (woken m)
+wakings-of : (m : ℕ) → Wakings (after-entry m)
 unfolding wakings
-wakings-of m = wake-guarantee (woken m) (reached-at wakings-calls m)
+wakings-of m = wake-guarantee (after-entry m) (reached-at wakings-calls m)
 
-first-release : OneWoken (woken 13) (woken 14) (acquirers 13) (acquirers 14)
+first-release : OneWoken (after-entry 13) (after-entry 14) (acquirers 13) (acquirers 14)
 unfolding wakings wakings-calls
 first-release = wakings-of 13 .yes (release 0) _ (releasing 0) (wake-answers .release-yes)
 
@@ -166,7 +163,7 @@ wakings-met =
     record {
       reached = reached-at wakings-calls;
       guarantee = wakings-of;
-      wake-yes = subst (OneReady (woken 10) (woken 11)) (f .woken-slot) (wakings-of 10 .wake-yes (id 1) (f .wake-yes));
+      wake-yes = subst (OneReady (after-entry 10) (after-entry 11)) (f .woken-slot) (wakings-of 10 .wake-yes (id 1) (f .wake-yes));
       wake-no = wakings-of 11 .wake-no (id 1) (f .wake-no);
       wake-none = wakings-of 12 .wake-no (id 9) (f .wake-none);
       release-yes = first-release;

@@ -100,10 +100,11 @@ pub record OwnTick : Type 0 where
   pub queue-after : at-semaphore 0 ticked ≡ 2 ∷ 4 ∷ []
   pub other-before : at-event 1 before ≡ 5 ∷ []
   pub other-after : at-event 1 ticked ≡ 5 ∷ []
-  -- what the guarantee asks of the tick, and of the two limits
+  -- what the guarantee asks of the tick, of the two limits and of the one that is left
   pub accepted : step before tick .number ≡ 0
   pub due : Limited before 3 × (slot before 3 .«limit_tick» ≤ before .«tick_count» + 1)
   pub not-due : Limited before 4 × (before .«tick_count» + 1 < slot before 4 .«limit_tick»)
+  pub left : Limited ticked 4
 
 -- ---- a wait that ended earlier
 
@@ -128,7 +129,7 @@ pub record Earlier : Type 0 where
   pub queue-at : map (λ m. at-event 1 (kernel earlier m)) (9 ∷ 10 ∷ 12 ∷ []) ≡ (1 ∷ []) ∷ [] ∷ [] ∷ []
   -- the mark: yes from the first limit's own tick on, no from the signal on
   pub mark-at : map (λ m. slot (kernel earlier m) 1 .«limit_passed») (4 ∷ 5 ∷ 9 ∷ 10 ∷ 12 ∷ []) ≡ false ∷ true ∷ true ∷ false ∷ false ∷ []
-  -- the ticks after it, the one at which the limit would have ended among them, end nothing
+  -- none of the ticks ends anything, nor does the one at which the limit would have ended, entry 11
   pub wants : map (answer earlier) (9 ∷ 11 ∷ 12 ∷ []) ≡ YesNo false ∷ YesNo false ∷ YesNo false ∷ []
 
 -- ---- what the limit guarantee says of both
@@ -169,6 +170,7 @@ pub record AtItsTick : Type 0 where
   pub at-tick : AtTick before ticked
   pub ended : slot ticked 3 ≡ expired (slot before 3)
   pub same : slot ticked 4 ≡ slot before 4
+  pub ahead : ticked .«tick_count» < slot ticked 4 .«limit_tick»
 
 -- ---- wake, release and signal
 
@@ -186,58 +188,61 @@ unfoldable pub wakings : List Entry
 wakings = played wakings-calls
 
 -- the kernel after entry m of it, and the queues of semaphore 0 and of event 2 then
-abbrev pub woken : ℕ → Kernel
-woken = kernel wakings
+abbrev pub after-entry : ℕ → Kernel
+after-entry = kernel wakings
 
 abbrev pub acquirers : ℕ → WaitQueue
-acquirers m = semaphore (woken m) 0 .waiters
+acquirers m = semaphore (after-entry m) 0 .waiters
 
 abbrev pub waiters : ℕ → WaitQueue
-waiters m = event (woken m) 2 .waiters
+waiters m = event (after-entry m) 2 .waiters
 
 pub record WakeAnswers : Type 0 where
   -- a wake of a task that is Blocked, of one that is not, and of no task
-  pub wake-yes : step (woken 10) (wake (id 1)) .value ≡ YesNo true
-  pub wake-no : step (woken 11) (wake (id 1)) .value ≡ YesNo false
-  pub wake-none : step (woken 12) (wake (id 9)) .value ≡ YesNo false
-  pub woken-slot : slotOf (woken 10) (id 1) ≡ 1
+  pub wake-yes : step (after-entry 10) (wake (id 1)) .value ≡ YesNo true
+  pub wake-no : step (after-entry 11) (wake (id 1)) .value ≡ YesNo false
+  pub wake-none : step (after-entry 12) (wake (id 9)) .value ≡ YesNo false
+  pub wakes : (step (after-entry 10) (wake (id 1)) .number ≡ 0) × (step (after-entry 11) (wake (id 1)) .number ≡ 0)
+  pub woken-slot : slotOf (after-entry 10) (id 1) ≡ 1
   -- one release drops id 1, which is not Blocked, and wakes task 2, id 3 being left; the other drops id 3, not Blocked
-  pub release-yes : step (woken 13) (release 0) .value ≡ YesNo true
-  pub release-no : step (woken 15) (release 0) .value ≡ YesNo false
-  pub released : (step (woken 13) (release 0) .number ≡ 0) × (step (woken 15) (release 0) .number ≡ 0)
+  pub release-yes : step (after-entry 13) (release 0) .value ≡ YesNo true
+  pub release-no : step (after-entry 15) (release 0) .value ≡ YesNo false
+  pub released : (step (after-entry 13) (release 0) .number ≡ 0) × (step (after-entry 15) (release 0) .number ≡ 0)
   pub queued : map (λ m. ids (acquirers m)) (13 ∷ 14 ∷ 15 ∷ 16 ∷ []) ≡ (1 ∷ 2 ∷ 3 ∷ []) ∷ (3 ∷ []) ∷ (3 ∷ []) ∷ [] ∷ []
   pub lengths : (acquirers 13 .len ≡ 3) × (acquirers 14 .len ≡ 1)
-  pub counts : map (λ m. semaphore (woken m) 0 .count) (13 ∷ 14 ∷ 15 ∷ 16 ∷ []) ≡ 0 ∷ 1 ∷ 1 ∷ 2 ∷ []
+  pub counts : map (λ m. semaphore (after-entry m) 0 .count) (13 ∷ 14 ∷ 15 ∷ 16 ∷ []) ≡ 0 ∷ 1 ∷ 1 ∷ 2 ∷ []
   -- one signal wakes task 1 and sets no flag; the other drops id 2, which is not Blocked, and sets it
-  pub signal-yes : step (woken 19) (signal 2) .value ≡ YesNo true
-  pub signal-no : step (woken 23) (signal 2) .value ≡ YesNo false
-  pub signalled : (step (woken 19) (signal 2) .number ≡ 0) × (step (woken 23) (signal 2) .number ≡ 0)
+  pub signal-yes : step (after-entry 19) (signal 2) .value ≡ YesNo true
+  pub signal-no : step (after-entry 23) (signal 2) .value ≡ YesNo false
+  pub signalled : (step (after-entry 19) (signal 2) .number ≡ 0) × (step (after-entry 23) (signal 2) .number ≡ 0)
   pub waited : map (λ m. ids (waiters m)) (19 ∷ 20 ∷ 23 ∷ 24 ∷ []) ≡ (1 ∷ []) ∷ [] ∷ (2 ∷ []) ∷ [] ∷ []
-  pub flags : map (λ m. event (woken m) 2 .signaled) (19 ∷ 20 ∷ 23 ∷ 24 ∷ []) ≡ false ∷ false ∷ false ∷ true ∷ []
+  pub flags : map (λ m. event (after-entry m) 2 .signaled) (19 ∷ 20 ∷ 23 ∷ 24 ∷ []) ≡ false ∷ false ∷ false ∷ true ∷ []
   -- the states, from before the first wake to after the second release, and around the signals
-  pub states-woken : map (λ m. states 5 (woken m)) (10 ∷ 11 ∷ 12 ∷ 13 ∷ []) ≡ (0 ∷ 2 ∷ 2 ∷ 2 ∷ 1 ∷ []) ∷ (0 ∷ 0 ∷ 2 ∷ 2 ∷ 1 ∷ []) ∷ (0 ∷ 0 ∷ 2 ∷ 2 ∷ 1 ∷ []) ∷ (0 ∷ 0 ∷ 2 ∷ 2 ∷ 1 ∷ []) ∷ []
-  pub states-released : map (λ m. states 5 (woken m)) (14 ∷ 15 ∷ 16 ∷ []) ≡ (0 ∷ 0 ∷ 0 ∷ 2 ∷ 1 ∷ []) ∷ (0 ∷ 0 ∷ 0 ∷ 0 ∷ 1 ∷ []) ∷ (0 ∷ 0 ∷ 0 ∷ 0 ∷ 1 ∷ []) ∷ []
-  pub states-signalled : map (λ m. states 5 (woken m)) (19 ∷ 20 ∷ 23 ∷ 24 ∷ []) ≡ (0 ∷ 2 ∷ 1 ∷ 0 ∷ 0 ∷ []) ∷ (0 ∷ 0 ∷ 1 ∷ 0 ∷ 0 ∷ []) ∷ (0 ∷ 0 ∷ 0 ∷ 1 ∷ 0 ∷ []) ∷ (0 ∷ 0 ∷ 0 ∷ 1 ∷ 0 ∷ []) ∷ []
+  pub states-woken : map (λ m. states 5 (after-entry m)) (10 ∷ 11 ∷ 12 ∷ 13 ∷ []) ≡ (0 ∷ 2 ∷ 2 ∷ 2 ∷ 1 ∷ []) ∷ (0 ∷ 0 ∷ 2 ∷ 2 ∷ 1 ∷ []) ∷ (0 ∷ 0 ∷ 2 ∷ 2 ∷ 1 ∷ []) ∷ (0 ∷ 0 ∷ 2 ∷ 2 ∷ 1 ∷ []) ∷ []
+  pub states-released : map (λ m. states 5 (after-entry m)) (14 ∷ 15 ∷ 16 ∷ []) ≡ (0 ∷ 0 ∷ 0 ∷ 2 ∷ 1 ∷ []) ∷ (0 ∷ 0 ∷ 0 ∷ 0 ∷ 1 ∷ []) ∷ (0 ∷ 0 ∷ 0 ∷ 0 ∷ 1 ∷ []) ∷ []
+  pub states-signalled : map (λ m. states 5 (after-entry m)) (19 ∷ 20 ∷ 23 ∷ 24 ∷ []) ≡ (0 ∷ 2 ∷ 1 ∷ 0 ∷ 0 ∷ []) ∷ (0 ∷ 0 ∷ 1 ∷ 0 ∷ 0 ∷ []) ∷ (0 ∷ 0 ∷ 0 ∷ 1 ∷ 0 ∷ []) ∷ (0 ∷ 0 ∷ 0 ∷ 1 ∷ 0 ∷ []) ∷ []
 
 -- what the wake guarantee says of these calls: its premises are `reached`, and the values and numbers of `WakeAnswers`
 pub record WakingsMet : Type 0 where
-  pub reached : (m : ℕ) → Reached (woken m)
-  pub guarantee : (m : ℕ) → Wakings (woken m)
-  pub wake-yes : OneReady (woken 10) (woken 11) 1
-  pub wake-no : woken 12 ≡ woken 11
-  pub wake-none : woken 13 ≡ woken 12
+  pub reached : (m : ℕ) → Reached (after-entry m)
+  pub guarantee : (m : ℕ) → Wakings (after-entry m)
+  pub wake-yes : OneReady (after-entry 10) (after-entry 11) 1
+  pub wake-no : after-entry 12 ≡ after-entry 11
+  pub wake-none : after-entry 13 ≡ after-entry 12
   -- the place of the one that the release woke is 1
-  pub release-yes : OneWoken (woken 13) (woken 14) (acquirers 13) (acquirers 14)
+  pub release-yes : OneWoken (after-entry 13) (after-entry 14) (acquirers 13) (acquirers 14)
   pub release-place : release-yes .p ≡ 1
-  pub release-no : NoneWoken (woken 15) (woken 16) (acquirers 15) (acquirers 16)
-  pub count-yes : semaphore (woken 14) 0 .count ≡ semaphore (woken 13) 0 .count + 1
-  pub count-no : semaphore (woken 16) 0 .count ≡ semaphore (woken 15) 0 .count + 1
-  pub signal-yes : OneWoken (woken 19) (woken 20) (waiters 19) (waiters 20)
-  pub signal-no : NoneWoken (woken 23) (woken 24) (waiters 23) (waiters 24)
-  pub set : event (woken 24) 2 .signaled ≡ true
+  pub release-no : NoneWoken (after-entry 15) (after-entry 16) (acquirers 15) (acquirers 16)
+  pub count-yes : semaphore (after-entry 14) 0 .count ≡ semaphore (after-entry 13) 0 .count + 1
+  pub count-no : semaphore (after-entry 16) 0 .count ≡ semaphore (after-entry 15) 0 .count + 1
+  pub signal-yes : OneWoken (after-entry 19) (after-entry 20) (waiters 19) (waiters 20)
+  pub signal-no : NoneWoken (after-entry 23) (after-entry 24) (waiters 23) (waiters 24)
+  pub set : event (after-entry 24) 2 .signaled ≡ true
   -- neither signal is lost
-  pub kept-yes : OneWoken (woken 19) (woken 20) (waiters 19) (waiters 20) ⊎ (event (woken 20) 2 .signaled ≡ true)
-  pub kept-no : OneWoken (woken 23) (woken 24) (waiters 23) (waiters 24) ⊎ (event (woken 24) 2 .signaled ≡ true)
+  pub kept-yes :
+      OneWoken (after-entry 19) (after-entry 20) (waiters 19) (waiters 20) ⊎ (event (after-entry 20) 2 .signaled ≡ true)
+  pub kept-no :
+      OneWoken (after-entry 23) (after-entry 24) (waiters 23) (waiters 24) ⊎ (event (after-entry 24) 2 .signaled ≡ true)
 
 -- ---- a limited wait in a stretch
 
