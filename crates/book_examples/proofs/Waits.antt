@@ -56,13 +56,17 @@ limit-between-is = record { fresh = refl; stretch = refl; a-peer = refl; wants =
 
 -- ---- of every list that is played
 
-reached-from : (k : Kernel) (cs : List Call) (m : ℕ) → Reached k → initNumber 1000 2112 ≡ 0 → Reached (kernel (run k cs) m)
-reached-from k [] m r e = fresh 1000 2112 e
-reached-from k (c ∷ cs) zero r e = called c r
-reached-from k (c ∷ cs) (suc m) r e = reached-from (step k c .kernel) cs m (called c r) e
+accepted : initNumber 1000 2112 ≡ 0
+unfolding waits-computed
+accepted = refl
+
+reached-from : (k : Kernel) (cs : List Call) (m : ℕ) → Reached k → Reached (kernel (run k cs) m)
+reached-from k [] m r = fresh 1000 2112 accepted
+reached-from k (c ∷ cs) zero r = called c r
+reached-from k (c ∷ cs) (suc m) r = reached-from (step k c .kernel) cs m (called c r)
 
 reached-at : (cs : List Call) (m : ℕ) → Reached (kernel (played cs) m)
-reached-at cs m = let e = limit-between-is .fresh in reached-from (init 1000 2112 .kernel) cs m (fresh 1000 2112 e) e
+reached-at cs m = reached-from (init 1000 2112 .kernel) cs m (fresh 1000 2112 accepted)
 
 returned-first : (k : Kernel) (es : List Entry) (n : ℕ) → Returned k es → Returned k (take n es)
 returned-first k es zero r = tt
