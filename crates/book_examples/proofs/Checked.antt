@@ -21,7 +21,7 @@ use Rattle.book_guarantees.specs.Turns.{Holds, Stretch, Peer, Unchanging}
 use Rattle.book_guarantees.proofs.BestFirst.{clash}
 use Rattle.book_examples.specs.Tests.{each, eachNext, holds, isTurn, notSmaller, wants, switches, acceptedSwitch, entry, between, second, conditions, peer}
 
-each-is : (p : Entry → Bool) (P : Entry → Type 0) → ((e : Entry) → p e ≡ true → P e) → (es : List Entry) → each p es ≡ true → Each P es
+pub each-is : (p : Entry → Bool) (P : Entry → Type 0) → ((e : Entry) → p e ≡ true → P e) → (es : List Entry) → each p es ≡ true → Each P es
 each-is p P f [] q = tt
 each-is p P f (e ∷ es) q = (f e (and-left (p e) _ q), each-is p P f es (and-right (p e) _ q))
 

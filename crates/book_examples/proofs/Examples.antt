@@ -20,7 +20,7 @@ use Rattle.book_examples.specs.Examples.{run, arena, id, unpainted, mixe
 use Rattle.book_examples.proofs.Checked.{stretch-is, unchanging-is, peer-is, peer-unchanging-is}
 
 -- what the claims compute with: to unfold this is to unfold all that its line names
-computed : Unit {0}
+unfoldable pub computed : Unit {0}
 unfolding arena unpainted painted mixed mixed-calls two-tasks idle-round late-switch smaller-number first-sleeps not-neighbours other-sleeps by-rank smaller-rank first-changes other-changes other-priority slot-reused outcome outcomeOf isStart step number value effect valueNumber init initNumber freshKernel whole arenaFits if_then_else_ every allBelow anyBelow countBelow lowestBelow smallestBelow tabulate holdsTask link chain leadsTo rank position pushed enqueued atId placeWithout without popped Mutex.lock Mutex.unlock unblocked regionFits regionsOverlap stackGuardOk spInRange slotOf isBest pick lowestEmpty overlapsPresent isDue isLimitDue woken visited walked clocked advanced sliced wants wantsSwitch contextSaved reloaded Scheduler.add Scheduler.start Scheduler.tick Scheduler.switch Scheduler.exit sumBelow
 computed = tt
 
@@ -52,7 +52,7 @@ pub reused : Reused
 unfolding computed
 reused = record { stretch = refl; falls = (refl, refl); counted = (refl, refl); adds-up = (refl, refl, refl) }
 
-run-returned : (k : Kernel) (cs : List Call) → Returned k (run k cs)
+pub run-returned : (k : Kernel) (cs : List Call) → Returned k (run k cs)
 run-returned k [] = tt
 run-returned k (c ∷ cs) = (refl, run-returned (step k c .kernel) cs)
 
