@@ -21,7 +21,7 @@ use Rattle.kernel.specs.Event
 use Rattle.kernel.specs.Calls.{Call, acquire-within, event-wait-within, release, signal, step, init, initNumber, Reached, fresh, called}
 use Rattle.book_guarantees.specs.Lists.{Entry, after, Returned, acceptedTicks}
 use Rattle.book_guarantees.specs.Wakings.{OneReady, OneWoken, releasing, signalling, Wakings}
-use Rattle.book_guarantees.specs.Limits.{lastTick, WithLimit, acquiring, waiting, Keeps, EndsWithin}
+use Rattle.book_guarantees.specs.Limits.{lastTick, WithLimit, acquiring, waiting, Keeps, EndsWithin, LimitEndsAt}
 use Rattle.book_guarantees.proofs.TurnGuarantee.{turn-guarantee}
 use Rattle.book_guarantees.proofs.Wakings.{wake-guarantee}
 use Rattle.book_guarantees.proofs.Limits.{limit-guarantee}
@@ -40,7 +40,7 @@ waits-computed = tt
 
 pub own-tick-is : OwnTick
 unfolding waits-computed
-own-tick-is = record { kept-ticks = refl; all-ticks = refl; wants = refl; slice-left = refl; states-before = refl; states-after = refl; limits-before = refl; limits-after = refl; marks-before = refl; marks-after = refl; queue-before = refl; queue-after = refl; other-before = refl; other-after = refl; accepted = refl; due = (record { present = refl; limit = refl }, leb-true _ _ refl); not-due = (record { present = refl; limit = refl }, ltb-true _ _ refl); left = record { present = refl; limit = refl } }
+own-tick-is = record { kept-ticks = refl; all-ticks = refl; wants = refl; slice-left = refl; states-before = refl; states-after = refl; limits-before = refl; limits-after = refl; marks-before = refl; marks-after = refl; queue-before = refl; queue-after = refl; other-before = refl; other-after = refl; accepted = refl; due = record { limited = record { present = refl; limit = refl }; reached = leb-true _ _ refl }; object = refl; named = refl; not-due = (record { present = refl; limit = refl }, ltb-true _ _ refl); left = record { present = refl; limit = refl }; sleeper = record { present = refl; sleeping = refl; reached = leb-true _ _ refl }; runs = refl }
 
 pub earlier-is : Earlier
 unfolding waits-computed
@@ -140,14 +140,20 @@ at-its-tick =
     let f = own-tick-is in
     let r = reached-at own-tick-calls 21 in
     let at = limit-guarantee .at-tick before r (f .accepted) in
+    let out : LimitEndsAt before (AtSemaphore 0) (id 3) = record { i = 3; due = f .due; object = f .object; named = f .named } in
     record {
       reached = r;
-      wait-due = limit-guarantee .kept before r 3 (f .due .0);
+      wait-due = limit-guarantee .kept before r 3 (f .due .limited);
       wait-not-due = limit-guarantee .kept before r 4 (f .not-due .0);
+      ends = out;
       at-tick = at;
-      ended = at .due 3 (f .due .0) (f .due .1);
+      ended = at .due 3 (f .due);
       same = at .not-due 4 (f .not-due .0) (f .not-due .1);
       ahead = at .ahead 4 (f .left);
+      woken = at .sleeper 6 (f .sleeper);
+      slice = at .slice 1 (f .runs) .1;
+      out = at .semaphores 0 .left (id 3) out;
+      wants = at .wants 3 (f .due);
     }
 
 -- ---- wake, release and signal

@@ -11,19 +11,22 @@ use Rattle.base.specs.Choice.{every}
 use Rattle.base.specs.Below.{tabulate}
 use Rattle.kernel.specs.declared.control.LimitObject.{LimitObject}
 use Rattle.kernel.specs.declared.control.LimitObject.the-variants.{AtSemaphore, AtEvent}
+use Rattle.kernel.specs.declared.control.TaskState.the-variants.{Ready, Running}
 use Rattle.kernel.specs.declared.wait_queue.WaitQueue.{WaitQueue}
 use Rattle.kernel.specs.declared.scheduler.Kernel.{Kernel}
 use Rattle.kernel.specs.declared.scheduler.Value.{Value}
 use Rattle.kernel.specs.declared.scheduler.Value.the-variants.{YesNo}
-use Rattle.kernel.specs.Control.{stateNumber, hasLimit, expired}
+use Rattle.kernel.specs.Control.{stateNumber, hasLimit, entered, expired}
+use Rattle.kernel.specs.WaitQueue.{contains}
 use Rattle.kernel.specs.Kernel.{slot, slotOf, semaphore, event}
+use Rattle.kernel.specs.Scheduler.{spent}
 use Rattle.kernel.specs.Rank.{rank}
 use Rattle.kernel.specs.Calls.{Call, start, tick, sleep, wake, acquire, acquire-within, release}
 use Rattle.kernel.specs.Calls.{event-wait, event-wait-within, signal, step, init, initNumber, Reached}
 use Rattle.book_guarantees.specs.Lists.{Entry, after, Each, Returned, end, acceptedTicks}
 use Rattle.book_guarantees.specs.Turns.{Stretch, Peer, Unchanging, Fair}
 use Rattle.book_guarantees.specs.Wakings.{OneReady, OneWoken, NoneWoken, Wakings}
-use Rattle.book_guarantees.specs.Limits.{lastTick, Limited, Waiting, AtTick, WithLimit, Keeps, EndsWithin}
+use Rattle.book_guarantees.specs.Limits.{lastTick, Limited, Waiting, LimitDue, SleepDue, LimitEndsAt, AtTick, WithLimit, Keeps, EndsWithin}
 use Rattle.book_examples.specs.Tests.{entry, between, second, conditions, peer, turnsOf, riseOf}
 use Rattle.book_examples.specs.Examples.{played, leave, id, tasks}
 
@@ -100,11 +103,15 @@ pub record OwnTick : Type 0 where
   pub queue-after : at-semaphore 0 ticked ≡ 2 ∷ 4 ∷ []
   pub other-before : at-event 1 before ≡ 5 ∷ []
   pub other-after : at-event 1 ticked ≡ 5 ∷ []
-  -- what the guarantee asks of the tick, of the two limits and of the one that is left
+  -- what the guarantee asks of the tick, of the two limits, of the one that is left, of the sleeper and of who runs
   pub accepted : step before tick .number ≡ 0
-  pub due : Limited before 3 × (slot before 3 .«limit_tick» ≤ before .«tick_count» + 1)
+  pub due : LimitDue before 3
+  pub object : slot before 3 .«limit_object» ≡ AtSemaphore 0
+  pub named : slot before 3 .id ≡ id 3
   pub not-due : Limited before 4 × (before .«tick_count» + 1 < slot before 4 .«limit_tick»)
   pub left : Limited ticked 4
+  pub sleeper : SleepDue before 6
+  pub runs : slot before 1 .state ≡ Running
 
 -- ---- a wait that ended earlier
 
@@ -167,10 +174,15 @@ pub record AtItsTick : Type 0 where
   pub reached : Reached before
   pub wait-due : Waiting before 3
   pub wait-not-due : Waiting before 4
-  pub at-tick : AtTick before ticked
+  pub ends : LimitEndsAt before (AtSemaphore 0) (id 3)
+  pub at-tick : AtTick before (step before tick)
   pub ended : slot ticked 3 ≡ expired (slot before 3)
   pub same : slot ticked 4 ≡ slot before 4
   pub ahead : ticked .«tick_count» < slot ticked 4 .«limit_tick»
+  pub woken : slot ticked 6 ≡ entered Ready (slot before 6)
+  pub slice : slot ticked 1 ≡ spent (slot before 1)
+  pub out : contains (semaphore ticked 0 .waiters) (id 3) ≡ false
+  pub wants : step before tick .value ≡ YesNo true
 
 -- ---- wake, release and signal
 

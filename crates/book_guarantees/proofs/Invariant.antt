@@ -55,8 +55,8 @@ pub record Invariant (k : Kernel) : Type 0 where
 one-slot : (k : Kernel) → Slices k → (i : ℕ) (u : TaskControl) → SliceFits i u → (j : ℕ) → SliceFits j (getD (set (k .tasks) i u) j blankSlot)
 one-slot k f i u h = set-each SliceFits blankSlot (k .tasks) i u h f
 
-same-slice : (k : Kernel) → Slices k → (i : ℕ) (u : TaskControl) → u .«time_slice» ≡ slot k i .«time_slice» → u .«remaining_slice» ≡ slot k i .«remaining_slice» → (j : ℕ) → SliceFits j (getD (set (k .tasks) i u) j blankSlot)
-same-slice k f i u s r = one-slot k f i u (slice-same i (slot k i) u s (omega (arith, r)) (f i))
+same-slice : (k : Kernel) → Slices k → (i : ℕ) (u : TaskControl) → u .id ≡ slot k i .id → u .«time_slice» ≡ slot k i .«time_slice» → u .«remaining_slice» ≡ slot k i .«remaining_slice» → (j : ℕ) → SliceFits j (getD (set (k .tasks) i u) j blankSlot)
+same-slice k f i u n s r = one-slot k f i u (slice-same i (slot k i) u n s (omega (arith, r)) (f i))
 
 -- idle's slot is neither given nor emptied
 not-idles : (j : ℕ) (t : TaskControl) → (j ≡ 0 → ⊥) → SliceFits 1 t → SliceFits j t
@@ -66,16 +66,16 @@ not-idles (suc j) t n f = f
 change-slices : {g : Kind} (k k′ : Kernel) → Change g k k′ → Account k → Slices k → Slices k′
 unfolding Scheduler.add
 change-slices k k′ (task i u h c) a f = one-slot k f i u (task-kept c .slices i (f i))
-change-slices k k′ (begins o n h b g p s) a f = same-slice k f (current k) _ refl refl
+change-slices k k′ (begins o n h b g p s) a f = same-slice k f (current k) _ refl refl refl
 change-slices k k′ (clock l b) a f = f
 change-slices k k′ (permits s n q h c) a f = f
 change-slices k k′ (flag v n q h c) a f = f
 change-slices k k′ (handoff m h q l c) a f = f
-change-slices k k′ (owner m l from to h q r d c) a f = owner-each Slices (λ x i n _ e. same-slice x e i _ refl refl) from to k f
+change-slices k k′ (owner m l from to h q r d c) a f = owner-each Slices (λ x i n _ e. same-slice x e i _ refl refl refl) from to k f
 change-slices k k′ (added p r free region) a f = one-slot k f _ _ (not-idles (lowestEmpty k) (newTask (nextId k) p r) (λ e. clash (a .sound .is .idle) (rw e at (first-empty k free))) (omega arith))
 change-slices k k′ (reaped i h idle running on) a f = one-slot k f i blankSlot (not-idles i blankSlot (λ e. idle (sym e)) (omega arith))
-change-slices k k′ (begun x h o) a f = same-slice k f (nextTask k) _ refl refl
-change-slices k k′ (turned x h o) a f = let t = slot k (nextTask k) in one-slot k f (nextTask k) _ (slice-same (nextTask k) (reloaded t) (entered Running (reloaded t)) refl (le-refl _) (reloaded-kept t .2 (nextTask k) (f (nextTask k))))
+change-slices k k′ (begun x h o) a f = same-slice k f (nextTask k) _ refl refl refl
+change-slices k k′ (turned x h o) a f = let t = slot k (nextTask k) in one-slot k f (nextTask k) _ (slice-same (nextTask k) (reloaded t) (entered Running (reloaded t)) refl refl (le-refl _) (reloaded-kept t .2 (nextTask k) (f (nextTask k))))
 
 pub invariant-kept : {g : Kind} {k k′ : Kernel} → Changes g k k′ → Invariant k → OnlyCurrent k′ → Invariant k′
 invariant-kept {g} cs i r =
@@ -87,7 +87,7 @@ unfolding freshKernel
 fresh-invariant hz words e = record { account = fresh-account hz words e; slices = λ j. slots j .0; running = λ j r. clash r (slots j .1) }
   where
     slots : (j : ℕ) → SliceFits j (slot (freshKernel hz words) j) × (runs (slot (freshKernel hz words) j) ≡ false)
-    slots zero = ((refl, omega arith), refl)
+    slots zero = ((refl, omega arith, refl), refl)
     slots (suc j) = rw (all-default blankSlot 15 j) (omega arith, refl)
 
 -- ---- how many ticks a task may have

@@ -9,6 +9,7 @@ use lib.Dec.{eqb}
 use lib.Seq.{getD-set-other}
 use Rattle.base.proofs.Choices.{either}
 use Rattle.base.proofs.Loops.{set-default}
+use Rattle.kernel.specs.declared.control.TaskId.{TaskId}
 use Rattle.kernel.specs.declared.control.TaskControl.{TaskControl}
 use Rattle.kernel.specs.declared.scheduler.Kernel.{Kernel}
 use Rattle.kernel.specs.Update.{withRemaining}
@@ -21,17 +22,17 @@ use Rattle.kernel.proofs.Changes.{TaskChange, same, state, asleep, ended, waite
 use Rattle.book_guarantees.proofs.BestFirst.{clash}
 use Rattle.book_guarantees.proofs.Fairness.{runs}
 
--- the slice of the task in a slot, and what remains of it: in slot 0 idle's, which is 1, elsewhere at most 5
+-- the slice of the task in a slot, and what remains of it: in slot 0 idle's, of id 0, which is 1; elsewhere at most 5
 abbrev pub SliceFits : ℕ → TaskControl → Type 0
-SliceFits zero t = (t .«time_slice» ≡ 1) × (t .«remaining_slice» ≤ 1)
+SliceFits zero t = (t .«time_slice» ≡ 1) × (t .«remaining_slice» ≤ 1) × (t .id .0 ≡ 0)
 SliceFits (suc j) t = (t .«time_slice» ≤ 5) × (t .«remaining_slice» ≤ 5)
 
-pub slice-same : (j : ℕ) (t u : TaskControl) → u .«time_slice» ≡ t .«time_slice» → u .«remaining_slice» ≤ t .«remaining_slice» → SliceFits j t → SliceFits j u
-slice-same zero t u s r f = (s ∙ f .0, omega (arith, f .1))
-slice-same (suc j) t u s r f = (omega (arith, f .0), omega (arith, f .1))
+pub slice-same : (j : ℕ) (t u : TaskControl) → u .id ≡ t .id → u .«time_slice» ≡ t .«time_slice» → u .«remaining_slice» ≤ t .«remaining_slice» → SliceFits j t → SliceFits j u
+slice-same zero t u i s r f = (s ∙ f .0, omega (arith, f .1), ap (λ (a : TaskId). a .0) i ∙ f .2)
+slice-same (suc j) t u i s r f = (omega (arith, f .0), omega (arith, f .1))
 
 slice-full : (j : ℕ) (t : TaskControl) → SliceFits j t → SliceFits j (withRemaining (t .«time_slice») t)
-slice-full zero t f = (f .0, omega (arith, f .0))
+slice-full zero t f = (f .0, omega (arith, f .0), f .2)
 slice-full (suc j) t f = (f .0, f .0)
 
 -- a call of this kind gives no turn and no tick
@@ -53,21 +54,21 @@ pub record TaskKept (g : Kind) (t u : TaskControl) : Type 0 where
   pub running : runs u ≡ true → runs t ≡ true
   pub remaining : IsOther g → u .«remaining_slice» ≤ t .«remaining_slice»
 
-less-left : {g : Kind} {t u : TaskControl} → u .occupied ≡ t .occupied → u .priority ≡ t .priority → u .«time_slice» ≡ t .«time_slice» → u .«remaining_slice» ≤ t .«remaining_slice» → (runs u ≡ true → runs t ≡ true) → TaskKept g t u
-less-left {t = t} {u = u} o p s r e = record { occupied = o; priority = p; slices = λ j. slice-same j t u s r; running = e; remaining = λ _. r }
+less-left : {g : Kind} {t u : TaskControl} → u .id ≡ t .id → u .occupied ≡ t .occupied → u .priority ≡ t .priority → u .«time_slice» ≡ t .«time_slice» → u .«remaining_slice» ≤ t .«remaining_slice» → (runs u ≡ true → runs t ≡ true) → TaskKept g t u
+less-left {t = t} {u = u} i o p s r e = record { occupied = o; priority = p; slices = λ j. slice-same j t u i s r; running = e; remaining = λ _. r }
 
 pub task-kept : {g : Kind} {t u : TaskControl} → TaskChange g t u → TaskKept g t u
 unfolding contextSaved
-task-kept same = less-left refl refl refl (le-refl _) (λ e. e)
-task-kept (state s n) = less-left refl refl refl (le-refl _) (λ e. clash e n)
-task-kept (asleep n) = less-left refl refl refl (le-refl _) (λ e. clash e refl)
-task-kept ended = less-left refl refl refl (omega arith) (λ e. clash e refl)
-task-kept (waiter a) = less-left refl refl refl (le-refl _) (λ e. e)
-task-kept (answered r) = less-left refl refl refl (le-refl _) (λ e. e)
-task-kept passed = less-left refl refl refl (le-refl _) (λ e. clash e refl)
-task-kept (less n h) = less-left refl refl refl h (λ e. e)
+task-kept same = less-left refl refl refl refl (le-refl _) (λ e. e)
+task-kept (state s n) = less-left refl refl refl refl (le-refl _) (λ e. clash e n)
+task-kept (asleep n) = less-left refl refl refl refl (le-refl _) (λ e. clash e refl)
+task-kept ended = less-left refl refl refl refl (omega arith) (λ e. clash e refl)
+task-kept (waiter a) = less-left refl refl refl refl (le-refl _) (λ e. e)
+task-kept (answered r) = less-left refl refl refl refl (le-refl _) (λ e. e)
+task-kept passed = less-left refl refl refl refl (le-refl _) (λ e. clash e refl)
+task-kept (less n h) = less-left refl refl refl refl h (λ e. e)
 task-kept (full {t = t}) = record { occupied = refl; priority = refl; slices = λ j. slice-full j t; running = λ e. e; remaining = λ x. absurd x }
-task-kept (saved {t = t} sp) = either (TaskKept switching t) (runs t) (λ _. less-left refl refl refl (le-refl _) (λ e. clash e refl)) (λ _. less-left refl refl refl (le-refl _) (λ e. e))
+task-kept (saved {t = t} sp) = either (TaskKept switching t) (runs t) (λ _. less-left refl refl refl refl (le-refl _) (λ e. clash e refl)) (λ _. less-left refl refl refl refl (le-refl _) (λ e. e))
 
 pub reloaded-kept : (t : TaskControl) → ((reloaded t) .occupied ≡ t .occupied) × ((reloaded t) .priority ≡ t .priority) × ((j : ℕ) → SliceFits j t → SliceFits j (reloaded t))
 unfolding reloaded

@@ -7,9 +7,10 @@ pub mod Account
 pub mod Invariant
 pub mod TurnGuarantee
 pub mod Charges
-pub mod Signaled
+pub mod Settled
 pub mod Queues
 pub mod Wakings
+pub mod Moves
 pub mod Ticks
 pub mod Limits
 pub mod Milliseconds

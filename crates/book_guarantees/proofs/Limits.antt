@@ -42,12 +42,13 @@ use Rattle.kernel.proofs.Unlimited.{inside}
 use Rattle.kernel.proofs.Owned.{Owned, Sound, all-default, fresh-sound, change-sound}
 use Rattle.kernel.proofs.Reached.{reached-by}
 use Rattle.book_guarantees.specs.Lists.{Entry, after, Each, Returned, end, Outcome, turn, tick as ticked, other, outcomeOf, outcome, isStart, acceptedTick, acceptedTicks}
-use Rattle.book_guarantees.specs.Limits.{lastTick, Limited, Waiting, queueOf, Ends, Without, AtTick, WithLimit, acquiring, waiting, Keeps, EndsWithin, LimitGuarantee}
+use Rattle.book_guarantees.specs.Limits.{lastTick, Limited, Waiting, LimitEndsAt, Without, AtTick, WithLimit, acquiring, waiting, Keeps, EndsWithin, LimitGuarantee}
 use Rattle.book_guarantees.proofs.BestFirst.{clash}
 use Rattle.book_guarantees.proofs.Fairness.{runs}
-use Rattle.book_guarantees.proofs.Invariant.{tick-slot, tick-spent}
+use Rattle.book_guarantees.proofs.Invariant.{tick-clock, tick-slot, tick-spent}
+use Rattle.book_guarantees.proofs.Settled.{limited-started}
 use Rattle.book_guarantees.proofs.Queues.{AllFit, fresh-fits, change-fits}
-use Rattle.book_guarantees.proofs.Ticks.{woken-still, not-limited, not-sleeping, sleeper-due, woken-sleeper, woken-mark, limit-due, not-running, tick-mutexes, tick-queues, tick-mark, limit-wants}
+use Rattle.book_guarantees.proofs.Ticks.{queueOf, woken-still, not-limited, not-sleeping, sleeper-due, woken-sleeper, woken-mark, limit-due, not-running, tick-mutexes, tick-queues, tick-mark, limit-wants}
 use Rattle.book_guarantees.proofs.TurnGuarantee.{Fact, entry-fact, reached-invariant}
 use Rattle.book_guarantees.proofs.Wakings.{is-blocked, answers, accepts, of-step, told}
 
@@ -229,6 +230,7 @@ each-slot k r z P b i f =
 
 at-tick : (k : Kernel) → Reached k → step k tick .number ≡ 0 → AtTick k (step k tick)
 at-tick k r z = record {
+  raised = ticks (λ (a : Answer). a .kernel .«tick_count» ≡ now) k z (tick-clock k);
   due = λ i d. to i _ (sixteen r i (d .limited .present)) (waits-due now (slot k i) (d .limited .present) (d .limited .limit) (d .reached)) refl;
   not-due = λ i l d. let b = kept k r i l .blocked in to i _ (sixteen r i (l .present)) (waits-on now (slot k i) (l .present) (l .limit) b d) (rw b);
   unmarked = λ i n. each-slot k r z (λ t u. u .«limit_passed» ≡ t .«limit_passed») refl i (λ h. tick-mark k i h ∙ woken-mark now (slot k i) (λ o l. n (record { present = o; limit = l })));
@@ -236,9 +238,10 @@ at-tick k r z = record {
   slice = slice;
   others = λ i n m s. each-slot k r z (λ t u. u ≡ t) refl i
       (λ h. let w = woken-still now (slot k i) (not-limited now (slot k i) (λ o l. n (record { present = o; limit = l }))) (not-sleeping now (slot k i) (λ o a b. m (record { present = o; sleeping = a; reached = b }))) in tick-slot k i h (ap runs (sym w) ∙ not-running (slot k i .state) s) ∙ sym w);
-  queues = λ o. ticks (λ (a : Answer). Without (Ends k o) (queueOf o k) (queueOf o (a .kernel))) k z (tick-queues k r (queued r .sound .is) (queued r .queues) (sixteen r) o);
+  semaphores = λ s. queues (AtSemaphore s);
+  events = λ e. queues (AtEvent e);
   mutexes = ticks (λ (a : Answer). a .kernel .mutexes ≡ k .mutexes) k z (tick-mutexes k);
-  wants = λ i d on. ticks (λ (a : Answer). a .value ≡ YesNo true) k z (ap YesNo (limit-wants k i (sixteen r i (d .limited .present)) on (limit-due now (slot k i) (d .limited .present) (d .limited .limit) (d .reached))));
+  wants = λ i d. ticks (λ (a : Answer). a .value ≡ YesNo true) k z (ap YesNo (limit-wants k i (sixteen r i (d .limited .present)) (limited-started r i (d .limited .limit)) (limit-due now (slot k i) (d .limited .present) (d .limited .limit) (d .reached))));
   ahead = ticked-ahead k r z;
 }
   where
@@ -247,6 +250,9 @@ at-tick k r z = record {
 
     to : (i : ℕ) (u : TaskControl) → i < 16 → woken now (slot k i) ≡ u → runs u ≡ false → slot (step k tick .kernel) i ≡ u
     to i u h w n = ticks (λ (a : Answer). slot (a .kernel) i ≡ u) k z (tick-slot k i h (ap runs w ∙ n) ∙ w)
+
+    queues : (o : LimitObject) → Without (LimitEndsAt k o) (queueOf o k) (queueOf o (step k tick .kernel))
+    queues o = ticks (λ (a : Answer). Without (LimitEndsAt k o) (queueOf o k) (queueOf o (a .kernel))) k z (tick-queues k r (queued r .sound .is) (queued r .queues) (sixteen r) o)
 
     asleep : TaskState → Bool
     asleep s = eqb (stateNumber s) 3
@@ -258,12 +264,12 @@ at-tick k r z = record {
     awake : (i : ℕ) → (slot k i .state ≡ Blocked → ⊥) → isLimitDue now (slot k i) ≡ false
     awake i n = not-limited now (slot k i) (λ o l. n (kept k r i (record { present = o; limit = l }) .blocked))
 
-    slice : (i : ℕ) → slot k i .state ≡ Running → (i ≡ current k) × (k .started ≡ true) × (slot (step k tick .kernel) i ≡ spent (slot k i))
+    slice : (i : ℕ) → slot k i .state ≡ Running → (i ≡ current k) × (slot (step k tick .kernel) i ≡ spent (slot k i))
     slice i e =
         let inv = reached-invariant r in
         let on = inv .running i (ap running e) in
         let w = woken-still now (slot k i) (awake i (λ b. clash (ap running (sym b ∙ e)) refl)) (not-sleeping now (slot k i) (λ _ b _. clash (ap running (sym b ∙ e)) refl)) in
-        (on .0, on .1, ticks (λ (a : Answer). slot (a .kernel) i ≡ spent (slot k i)) k z (rw (on .0) (tick-spent k inv (on .1) (rw (← on .0) (ap running e)) (rw (← on .0) w))))
+        (on .0, ticks (λ (a : Answer). slot (a .kernel) i ≡ spent (slot k i)) k z (rw (on .0) (tick-spent k inv (on .1) (rw (← on .0) (ap running e)) (rw (← on .0) w))))
 
 -- ---- lists
 

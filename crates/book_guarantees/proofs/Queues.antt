@@ -26,7 +26,7 @@ use Rattle.kernel.proofs.Queue.{waits-in, waits-here, found-at, removed-keeps}
 use Rattle.kernel.proofs.Changes.{QueueChange, still, joined, left, out, Change, task, begins, clock, permits, flag, handoff, owner, added, reaped, begun, turned}
 use Rattle.kernel.proofs.Reached.{reached-by}
 use Rattle.book_guarantees.specs.Queues.{Once, QueueGuarantee}
-use Rattle.book_guarantees.proofs.Signaled.{all-clear}
+use Rattle.book_guarantees.proofs.Settled.{all-clear}
 
 -- ---- a queue
 

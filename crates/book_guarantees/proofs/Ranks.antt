@@ -10,8 +10,8 @@ use lib.Seq.{getD-set-other}
 use borrow.Author.Tests.{ltb-true, le-ltb, eqb-true, eqb-false}
 use Rattle.base.specs.Choice.{if_then_else_}
 use Rattle.base.specs.Below.{tabulate}
-use Rattle.base.proofs.Choices.{either}
-use Rattle.base.proofs.Loops.{any-false, smallest-at, smallest-is, tabulate-length, tabulate-at}
+use Rattle.base.proofs.Choices.{and-right, either}
+use Rattle.base.proofs.Loops.{any-false, lowest-none, smallest-at, smallest-is, tabulate-length, tabulate-at}
 use Rattle.kernel.specs.declared.control.TaskId.{TaskId}
 use Rattle.kernel.specs.declared.control.OptionTaskId.the-variants.{Some}
 use Rattle.kernel.specs.declared.control.TaskControl.{TaskControl}
@@ -20,13 +20,13 @@ use Rattle.kernel.specs.declared.control.TaskState.the-variants.{Ready, Running
 use Rattle.kernel.specs.declared.scheduler.Kernel.{Kernel}
 use Rattle.kernel.specs.Update.{withSp}
 use Rattle.kernel.specs.Control.{stateNumber, inState, entered, holdsTask, blankSlot}
-use Rattle.kernel.specs.Kernel.{slot, current, currentTask, slotOf, mutex}
-use Rattle.kernel.specs.Rank.{priorityOf, ownerSlot, link, leadsTo, rank}
+use Rattle.kernel.specs.WaitQueue.{contains}
+use Rattle.kernel.specs.Kernel.{slot, current, currentTask, slotOf, mutex, whole}
+use Rattle.kernel.specs.Rank.{priorityOf, ownerSlot, queuedAt, link, leadsTo, rank}
 use Rattle.kernel.specs.Scheduler.{pick, isReady, nextTask, contextSaved, saveContext}
 use Rattle.kernel.specs.Calls.{start, switch, value, valueNumber, step, pickBytes}
 use Rattle.kernel.proofs.Pick.{pick-same, pick-none}
-use Rattle.kernel.proofs.Whole.{Whole}
-use Rattle.kernel.proofs.Accepted.{accepted-is}
+use Rattle.kernel.proofs.Whole.{Whole, is-whole}
 use Rattle.kernel.proofs.Unlimited.{changed-here}
 use Rattle.kernel.proofs.Rank.{leads-none, rank-le, rank-own, link-none, link-by, at-most-four, four-enough, rank-on, rank-saved}
 use Rattle.book_guarantees.specs.Ranks.{WaitsAt, Best, stateByte, stateBytes, rankBytes, switchBytes, RankGuarantee}
@@ -36,6 +36,13 @@ use Rattle.book_guarantees.proofs.Wakings.{accepts, of-step}
 link-is : (k : Kernel) (j m : ℕ) → m < 4 → WaitsAt k j m → link k j ≡ ownerSlot k (mutex k m .owner)
 unfolding holdsTask
 link-is k j m h w = link-by k j m h (rw (w .present, w .blocked)) (w .queued) (w .lowest)
+
+-- a task that is queued nowhere has none
+link-unqueued : (k : Kernel) (j : ℕ) → ((m : ℕ) → m < 4 → contains (mutex k m .waiters) (slot k j .id) ≡ false) → link k j ≡ 16
+unfolding link
+link-unqueued k j f =
+    either (λ n. n ≡ 16) (holdsTask Blocked (slot k j) && ltb (queuedAt k (slot k j .id)) 4)
+    (λ e. absurd (omega (arith, ltb-true (queuedAt k (slot k j .id)) 4 (and-right (holdsTask Blocked (slot k j)) _ e), lowest-none (λ m. contains (mutex k m .waiters) (slot k j .id)) 4 f))) (λ _. refl)
 
 to-owner : (k : Kernel) (j m : ℕ) (a : TaskId) → m < 4 → WaitsAt k j m → mutex k m .owner ≡ Some a → link k j ≡ slotOf k a
 to-owner k j m a h w o = link-is k j m h w ∙ rw o
@@ -92,22 +99,23 @@ switch-ready k w sp i = go (eqb i (current k)) refl
     go true e = rw (eqb-true i (current k) e, changed-here k (current k) (contextSaved sp) (w .running)) (saved-ready sp (currentTask k) (w .running))
     go false e = rw (getD-set-other (k .tasks) (current k) i (contextSaved sp (currentTask k)) blankSlot (eqb-false i (current k) e)) (byte-ready k i)
 
-start-picks : (k : Kernel) → step k start .number ≡ 0 → valueNumber (step k start .value) ≡ pickBytes (stateBytes k) (rankBytes k) (current k)
-unfolding value valueNumber
-start-picks k z = let e = accepts k start z in of-step (λ a. valueNumber (a .value) ≡ pickBytes (stateBytes k) (rankBytes k) (current k)) k start e (sym (exported k (accepted-is k start e .current-slot)))
+exported-switch : (k : Kernel) → whole k ≡ true → (sp : ℕ) → pickBytes (switchBytes k) (rankBytes k) (current k) ≡ nextTask (saveContext sp k)
+exported-switch k h sp =
+    let w = is-whole k h in
+    pick-bytes _ (rank k) (rank (saveContext sp k)) (isReady (saveContext sp k)) (current k) (w .current-slot) (λ i _. either (λ n. n ≤ 6) (eqb i (current k) && inState Running (slot k i)) (λ _. omega arith) (λ _. byte-le k i)) (λ i _. switch-ready k w sp i) (λ i. sym (rank-saved sp k i))
 
-switch-picks : (k : Kernel) (arena : List ℕ) (sp : ℕ) → step k (switch arena sp) .number ≡ 0 → valueNumber (step k (switch arena sp) .value) ≡ pickBytes (switchBytes k) (rankBytes k) (current k)
+start-picks : (k : Kernel) → step k start .number ≡ 0 → valueNumber (step k start .value) ≡ nextTask k
 unfolding value valueNumber
-switch-picks k arena sp z =
-    let e = accepts k (switch arena sp) z in
-    let w = accepted-is k (switch arena sp) e in
-    of-step (λ a. valueNumber (a .value) ≡ pickBytes (switchBytes k) (rankBytes k) (current k)) k (switch arena sp) e
-    (sym (pick-bytes _ (rank k) (rank (saveContext sp k)) (isReady (saveContext sp k)) (current k) (w .current-slot) (λ i _. either (λ n. n ≤ 6) (eqb i (current k) && inState Running (slot k i)) (λ _. omega arith) (λ _. byte-le k i)) (λ i _. switch-ready k w sp i) (λ i. sym (rank-saved sp k i))))
+start-picks k z = of-step (λ a. valueNumber (a .value) ≡ nextTask k) k start (accepts k start z) refl
+
+switch-picks : (k : Kernel) (arena : List ℕ) (sp : ℕ) → step k (switch arena sp) .number ≡ 0 → valueNumber (step k (switch arena sp) .value) ≡ nextTask (saveContext sp k)
+unfolding value valueNumber
+switch-picks k arena sp z = of-step (λ a. valueNumber (a .value) ≡ nextTask (saveContext sp k)) k (switch arena sp) (accepts k (switch arena sp) z) refl
 
 -- ---- all of it
 
 best : (k : Kernel) (i : ℕ) → i < 16 → isReady k i ≡ true → Best k (nextTask k)
-best k i h e = let f = pick-first (isReady k) (rank k) (current k) i h e in record { ready = f .is; smallest = f .smallest; n = f .n; here = f .here; first = f .first }
+best k i h e = let f = pick-first (isReady k) (rank k) (current k) i h e in record { ready = f .is; smallest = f .smallest; n = f .n; place = f .here; first = f .first }
 
 pub rank-guarantee : RankGuarantee
 unfolding rank
@@ -116,6 +124,7 @@ rank-guarantee k = record {
   led = λ i j h e. smallest-at (leadsTo (link k) i) (priorityOf k) (priorityOf k i) 16 j h e;
   one-of = λ i. smallest-is (leadsTo (link k) i) (priorityOf k) (priorityOf k i) 16;
   blocked-only = λ i j e. leads-none (link k) i j (omega (arith, link-none k j e));
+  queued-only = λ i j f. leads-none (link k) i j (omega (arith, link-unqueued k j f));
   nowhere = λ i j m h w e. leads-none (link k) i j (omega (arith, link-is k j m h w, e));
   owner = λ j m a h g w o p. subst (λ (s : ℕ). rank k s ≤ rank k j) (to-owner k j m a g w o) (rank-on k j h (rw (to-owner k j m a g w o) (ltb-true _ _ p)));
   four = λ n j. at-most-four k n (λ i. eqb i j) j;
@@ -124,7 +133,8 @@ rank-guarantee k = record {
   saved = λ sp i. rank-saved sp k i;
   best = best k;
   none-ready = λ f. sym (pick-none (isReady k) (rank k) (current k) f);
-  exported = exported k;
   start-picks = start-picks k;
   switch-picks = switch-picks k;
+  exported = exported k;
+  exported-switch = exported-switch k;
 }

@@ -10,7 +10,7 @@ use lib.ListN.{length}
 use lib.Seq.{getD-set-same, getD-set-other}
 use borrow.Author.Tests.{leb-true, le-leb, ltb-true}
 use Rattle.base.specs.Choice.{if_then_else_}
-use Rattle.base.proofs.Choices.{not-yes, either, left, and-left, and-right}
+use Rattle.base.proofs.Choices.{not-yes, either, left as left-arm, and-left, and-right}
 use Rattle.base.proofs.Loops.{any-some, set-each}
 use Rattle.kernel.specs.declared.control.TaskId.{TaskId}
 use Rattle.kernel.specs.declared.control.LimitObject.{LimitObject}
@@ -21,15 +21,15 @@ use Rattle.kernel.specs.declared.control.TaskControl.{TaskControl}
 use Rattle.kernel.specs.declared.wait_queue.WaitQueue.{WaitQueue}
 use Rattle.kernel.specs.declared.scheduler.Kernel.{Kernel}
 use Rattle.kernel.specs.Control.{stateNumber, inState, holdsTask, isLimit, hasLimit, objectFits, entered, blankSlot}
-use Rattle.kernel.specs.WaitQueue.{contains, removed}
-use Rattle.kernel.specs.Kernel.{slot, current, currentTask}
+use Rattle.kernel.specs.WaitQueue.{emptyQueue, contains, removed}
+use Rattle.kernel.specs.Kernel.{slot, current, currentTask, semaphore, event}
 use Rattle.kernel.specs.Scheduler.{isDue, isLimitDue, woken, unqueued, visited, walked, spent, clocked, advanced, currentRuns, sliced, wants, wantsSwitch}
 use Rattle.kernel.specs.Scheduler
 use Rattle.kernel.specs.Calls.{Reached}
 use Rattle.kernel.proofs.Unlimited.{due-occupied}
 use Rattle.kernel.proofs.Walk.{walked-beside, walked-before, walked-after}
 use Rattle.kernel.proofs.Whole.{Whole}
-use Rattle.book_guarantees.specs.Limits.{queueOf, Ends, Without}
+use Rattle.book_guarantees.specs.Limits.{LimitEndsAt, Without}
 use Rattle.book_guarantees.proofs.Wakings.{sized}
 use Rattle.book_guarantees.proofs.Queues.{Fits, empty-fits, AllFit, same-id, removed-fits, removed-gone, removed-stays, removed-order}
 
@@ -38,7 +38,7 @@ use Rattle.book_guarantees.proofs.Queues.{Fits, empty-fits, AllFit, sam
 -- what the walk leaves: neither a due limit nor a due sleeper
 pub woken-still : (now : ℕ) (t : TaskControl) → isLimitDue now t ≡ false → isDue now t ≡ false → t ≡ woken now t
 unfolding woken
-woken-still now t l d = left _ _ _ _ l (left _ _ _ _ d refl)
+woken-still now t l d = left-arm _ _ _ _ l (left-arm _ _ _ _ d refl)
 
 pub not-limited : (now : ℕ) (t : TaskControl) → (t .occupied ≡ true → hasLimit t ≡ true → ⊥) → isLimitDue now t ≡ false
 not-limited now t n = not-yes _ (λ y. let o = due-occupied now t y in n (o .0) (o .1))
@@ -85,10 +85,16 @@ not-running Terminated n = refl
 
 -- ---- queues
 
+-- the queue of an object
+abbrev pub queueOf : LimitObject → Kernel → WaitQueue
+queueOf NoLimit k = emptyQueue
+queueOf (AtSemaphore s) k = semaphore k s .waiters
+queueOf (AtEvent e) k = event k e .waiters
+
 -- one id more is gone
 one-gone : {G G′ : TaskId → Type 0} (q r : WaitQueue) (a : TaskId) → ((b : TaskId) → G b → G′ b) → ((b : TaskId) → G′ b → G b ⊎ (a ≡ b)) → G′ a → Fits r → Without G q r → Without G′ q (removed r a)
 one-gone {G} {G′} q r a in-it either-way here f w = record {
-  gone = λ b g. go b (ℕ-discrete (a .0) (b .0)) (either-way b g);
+  left = λ b g. go b (ℕ-discrete (a .0) (b .0)) (either-way b g);
   stay = λ b n. removed-stays r a b f (apart b n) ∙ w .stay b (λ g. n (in-it b g));
   order = λ b c n m l. removed-order r a b c f (apart b n) (apart c m) (w .order b c (λ g. n (in-it b g)) (λ g. m (in-it c g)) l);
   same = λ n. absurd (n a here);
@@ -99,13 +105,13 @@ one-gone {G} {G′} q r a in-it either-way here f w = record {
 
     go : (b : TaskId) → Dec (a .0 ≡ b .0) → G b ⊎ (a ≡ b) → contains (removed r a) b ≡ false
     go b (yes e) g = subst (λ (x : TaskId). contains (removed r a) x ≡ false) (same-id a b e) (removed-gone r a f)
-    go b (no n) (inl g) = removed-stays r a b f n ∙ w .gone b g
+    go b (no n) (inl g) = removed-stays r a b f n ∙ w .left b g
     go b (no n) (inr e) = absurd (n (ap (λ (x : TaskId). x .0) e))
 
 -- the same ids are gone
 same-gone : {G G′ : TaskId → Type 0} {q r : WaitQueue} → ((b : TaskId) → G b → G′ b) → ((b : TaskId) → G′ b → G b) → Without G q r → Without G′ q r
 same-gone to from w = record {
-  gone = λ b g. w .gone b (from b g);
+  left = λ b g. w .left b (from b g);
   stay = λ b n. w .stay b (λ g. n (to b g));
   order = λ b c n m. w .order b c (λ g. n (to b g)) (λ g. m (to c g));
   same = λ n. w .same (λ b g. n b (to b g));
@@ -183,7 +189,7 @@ module _ (k : Kernel) (w : Whole k) (ss : length (k .semaphores) ≡ 4) (es : le
 
   walk : (n : ℕ) → n ≤ 16 → Left n (queueOf o (walked now n k))
   unfolding walked visited
-  walk zero h = record { less = record { gone = λ b g. absurd (omega (arith, g .below)); stay = λ b n. refl; order = λ b c n m l. l; same = λ n. refl }; fit = at-first o }
+  walk zero h = record { less = record { left = λ b g. absurd (omega (arith, g .below)); stay = λ b n. refl; order = λ b c n m l. l; same = λ n. refl }; fit = at-first o }
     where
       at-first : (p : LimitObject) → objectFits p ≡ true → Fits (queueOf p k)
       at-first NoLimit f = empty-fits
@@ -213,7 +219,7 @@ due-ends : (now : ℕ) (t : TaskControl) → isLimitDue now t ≡ true → (t .o
 unfolding isLimitDue
 due-ends now t e = let o = due-occupied now t e in (o .0, o .1, leb-true _ _ (and-right (t .occupied && hasLimit t) _ e))
 
-pub tick-queues : (k : Kernel) → Reached k → Whole k → AllFit k → ((i : ℕ) → slot k i .occupied ≡ true → i < 16) → (o : LimitObject) → Without (Ends k o) (queueOf o k) (queueOf o (Scheduler.tick k))
+pub tick-queues : (k : Kernel) → Reached k → Whole k → AllFit k → ((i : ℕ) → slot k i .occupied ≡ true → i < 16) → (o : LimitObject) → Without (LimitEndsAt k o) (queueOf o k) (queueOf o (Scheduler.tick k))
 tick-queues k r w fits inside o =
     let now = k .«tick_count» + 1 in
     let z = sized r in

@@ -33,7 +33,7 @@ use Rattle.kernel.proofs.Changes.{Changes, none}
 use Rattle.kernel.proofs.MadeOf.{made-of}
 use Rattle.kernel.proofs.Reached.{init-kernel, reached}
 use Rattle.book_guarantees.specs.Lists.{Entry, after, Each, EachNext, Returned, end, Outcome, turn, tick, other, outcomeOf, outcome, AcceptedSwitch, turns, tickOf, ticksWhile, acceptedTick, starts, isStart}
-use Rattle.book_guarantees.specs.Turns.{Holds, Stays, Stretch, Peer, Unchanging, Rises, TurnGuarantee, TurnGuaranteeByPriority, IdleSlice}
+use Rattle.book_guarantees.specs.Turns.{Holds, Stays, Stretch, Peer, Unchanging, Rises, TurnGuarantee, TurnGuaranteeByPriority, ticksWhileOthers, IdleGuarantee}
 use Rattle.book_guarantees.proofs.BestFirst.{clash}
 use Rattle.book_guarantees.proofs.Fairness.{most, budget, IsTurn, answered, Step, Steps, At, each-at, fair}
 use Rattle.book_guarantees.proofs.Kept.{IsOther, priority-kept, charge-kept, kept}
@@ -101,7 +101,7 @@ other-fact {k = k} x i cs = record {
   ahead = λ w e. no-tick e;
 }
 
-accepted-fact : (k : Kernel) (c : Call) → Invariant k → number k c ≡ 0 → Changes (kind c) k (effect k c) → Fact k (starts (kind c)) (outcomeOf (kind c) (value k c)) (effect k c)
+pub accepted-fact : (k : Kernel) (c : Call) → Invariant k → number k c ≡ 0 → Changes (kind c) k (effect k c) → Fact k (starts (kind c)) (outcomeOf (kind c) (value k c)) (effect k c)
 unfolding outcomeOf value effect valueNumber Scheduler.start Scheduler.switch
 accepted-fact k start i m cs =
     let off = start-off k m in
@@ -278,11 +278,11 @@ turn-guarantee hz words accepted before between rest one two returned i a s u = 
     f = fair rank i r (begun .1) between one (after two) (begun .0) (subst (λ (x : ℕ). budget (after one) ≤ most x) (begun .0) (slice-ticks (c .1 .invariant))) (y .steps) (each-at rank r i a (one ∷ between) (s .stays) (refl, u)) (s .neighbouring) (s .none-smaller)
         (answered switch-is-turn between two (s .followed)) (subst (λ (v : Outcome). Step rank (end (after one) between) v (after two)) (s .second-turn) (y .second))
 
-    ticks : (sumBelow (λ j. if eqb j i then 0 else ticksWhile j (after one) between) 16 ≤ 75) × (i ≢ 0 → sumBelow (λ j. if eqb j i then 0 else ticksWhile j (after one) between) 16 ≤ 71)
+    ticks : (ticksWhileOthers i one between ≤ 75) × (i ≢ 0 → ticksWhileOthers i one between ≤ 71)
     ticks = less-slice i _ (slices (λ j. ticksWhile j (after one) between) i (begun .1) (f .1))
 
-pub idle-slice : IdleSlice
-idle-slice k r = reached-invariant r .slices 0 .0
+pub idle-guarantee : IdleGuarantee
+idle-guarantee k r = let i = reached-invariant r in record { present = i .account .sound .is .idle; named = i .slices 0 .2; slice = i .slices 0 .0 }
 
 -- ---- where no mutex has a queue
 

@@ -41,7 +41,7 @@ use Rattle.kernel.proofs.Changes.{Change, task, begins, clock, permits, flag, h
 use Rattle.kernel.proofs.MadeOf.{heads}
 use Rattle.kernel.proofs.Whole.{is-whole}
 use Rattle.kernel.proofs.Reached.{reached-by, reached-whole}
-use Rattle.book_guarantees.proofs.Signaled.{all-clear}
+use Rattle.book_guarantees.proofs.Settled.{all-clear}
 use Rattle.book_guarantees.specs.Wakings.{OneReady, OneWoken, NoneWoken, ReleaseOrSignal, releasing, signalling, Wakings, WakeGuarantee}
 
 -- ---- a wake

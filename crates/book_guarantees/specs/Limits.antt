@@ -6,14 +6,14 @@ use mathlib.Core.List.{List}
 use mathlib.Core.Logic.{_⊎_}
 use Rattle.kernel.specs.declared.control.TaskId.{TaskId}
 use Rattle.kernel.specs.declared.control.LimitObject.{LimitObject}
-use Rattle.kernel.specs.declared.control.LimitObject.the-variants.{NoLimit, AtSemaphore, AtEvent}
+use Rattle.kernel.specs.declared.control.LimitObject.the-variants.{AtSemaphore, AtEvent}
 use Rattle.kernel.specs.declared.control.TaskState.the-variants.{Ready, Running, Blocked, Sleeping}
 use Rattle.kernel.specs.declared.wait_queue.WaitQueue.{WaitQueue}
 use Rattle.kernel.specs.declared.scheduler.Kernel.{Kernel}
 use Rattle.kernel.specs.declared.scheduler.Value.the-variants.{YesNo}
 use Rattle.kernel.specs.declared.scheduler.Answer.{Answer}
 use Rattle.kernel.specs.Control.{hasLimit, entered, expired}
-use Rattle.kernel.specs.WaitQueue.{emptyQueue, position, contains}
+use Rattle.kernel.specs.WaitQueue.{position, contains}
 use Rattle.kernel.specs.Kernel.{slot, current, semaphore, event}
 use Rattle.kernel.specs.Scheduler.{spent}
 use Rattle.kernel.specs.Calls.{Call, tick, acquire-within, event-wait-within, step, Reached}
@@ -50,47 +50,44 @@ pub record SleepDue (k : Kernel) (i : ℕ) : Type 0 where
   pub sleeping : slot k i .state ≡ Sleeping
   pub reached : slot k i .«wake_tick» ≤ k .«tick_count» + 1
 
--- the queue of an object
-abbrev pub queueOf : LimitObject → Kernel → WaitQueue
-queueOf NoLimit k = emptyQueue
-queueOf (AtSemaphore s) k = semaphore k s .waiters
-queueOf (AtEvent e) k = event k e .waiters
-
 -- a is the id of a task whose limit at object o is due
-pub record Ends (k : Kernel) (o : LimitObject) (a : TaskId) : Type 0 where
+pub record LimitEndsAt (k : Kernel) (o : LimitObject) (a : TaskId) : Type 0 where
   pub i : ℕ
   pub due : LimitDue k i
   pub object : slot k i .«limit_object» ≡ o
   pub named : slot k i .id ≡ a
 
--- q′ is queue q without the ids of which `Gone` holds
-pub record Without (Gone : TaskId → Type 0) (q q′ : WaitQueue) : Type 0 where
+-- q′ is queue q without the ids of which `Leaves` holds
+pub record Without (Leaves : TaskId → Type 0) (q q′ : WaitQueue) : Type 0 where
   -- such an id stands in it no more; the others do if they did, and keep their order
-  pub gone : (a : TaskId) → Gone a → contains q′ a ≡ false
-  pub stay : (a : TaskId) → (Gone a → ⊥) → contains q′ a ≡ contains q a
-  pub order : (a b : TaskId) → (Gone a → ⊥) → (Gone b → ⊥) → position q a < position q b → position q′ a < position q′ b
+  pub left : (a : TaskId) → Leaves a → contains q′ a ≡ false
+  pub stay : (a : TaskId) → (Leaves a → ⊥) → contains q′ a ≡ contains q a
+  pub order : (a b : TaskId) → (Leaves a → ⊥) → (Leaves b → ⊥)
+      → position q a < position q b → position q′ a < position q′ b
   -- with no such id it is as it was
-  pub same : ((a : TaskId) → Gone a → ⊥) → q′ ≡ q
+  pub same : ((a : TaskId) → Leaves a → ⊥) → q′ ≡ q
 
--- what an accepted tick does on kernel k; a is its answer
+-- what an accepted tick does to the records and queues of kernel k; a is its answer
 pub record AtTick (k : Kernel) (a : Answer) : Type 0 where
+  pub raised : a .kernel .«tick_count» ≡ k .«tick_count» + 1
   -- it ends exactly the limits that the raised tick_count reaches: that task is Ready and marked; any other task with a
-  -- limit is as it was
+  -- limit has its record as it was
   pub due : (i : ℕ) → LimitDue k i → slot (a .kernel) i ≡ expired (slot k i)
   pub not-due : (i : ℕ) → Limited k i → k .«tick_count» + 1 < slot k i .«limit_tick» → slot (a .kernel) i ≡ slot k i
-  -- a slot without a limit keeps its mark, and is as it was but for a due sleeper's waking and the slice of the task that
+  -- a slot without a limit keeps its mark, and its record but for a due sleeper's waking and the slice of the task that
   -- runs, which is current
   pub unmarked : (i : ℕ) → (Limited k i → ⊥) → slot (a .kernel) i .«limit_passed» ≡ slot k i .«limit_passed»
   pub sleeper : (i : ℕ) → SleepDue k i → slot (a .kernel) i ≡ entered Ready (slot k i)
-  pub slice : (i : ℕ) → slot k i .state ≡ Running
-      → (i ≡ current k) × (k .started ≡ true) × (slot (a .kernel) i ≡ spent (slot k i))
+  pub slice : (i : ℕ) → slot k i .state ≡ Running → (i ≡ current k) × (slot (a .kernel) i ≡ spent (slot k i))
   pub others : (i : ℕ) → (Limited k i → ⊥) → (SleepDue k i → ⊥) → (slot k i .state ≡ Running → ⊥)
       → slot (a .kernel) i ≡ slot k i
   -- it takes the ids of those whose limit it ends out of that object's queue, and alters no queue otherwise
-  pub queues : (o : LimitObject) → Without (Ends k o) (queueOf o k) (queueOf o (a .kernel))
+  pub semaphores : (s : ℕ)
+      → Without (LimitEndsAt k (AtSemaphore s)) (semaphore k s .waiters) (semaphore (a .kernel) s .waiters)
+  pub events : (e : ℕ) → Without (LimitEndsAt k (AtEvent e)) (event k e .waiters) (event (a .kernel) e .waiters)
   pub mutexes : a .kernel .mutexes ≡ k .mutexes
-  -- where it ends a limit it wants a switch, if the kernel is started: so wherever current is Running (`slice`)
-  pub wants : (i : ℕ) → LimitDue k i → k .started ≡ true → a .value ≡ YesNo true
+  -- where it ends a limit it wants a switch
+  pub wants : (i : ℕ) → LimitDue k i → a .value ≡ YesNo true
   -- every limit lies after tick_count then, the last tick included
   pub ahead : (i : ℕ) → Limited (a .kernel) i → a .kernel .«tick_count» < slot (a .kernel) i .«limit_tick»
 

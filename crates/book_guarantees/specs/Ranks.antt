@@ -14,7 +14,7 @@ use Rattle.kernel.specs.declared.control.TaskState.the-variants.{Running, Block
 use Rattle.kernel.specs.declared.scheduler.Kernel.{Kernel}
 use Rattle.kernel.specs.Control.{stateNumber, holdsTask, inState}
 use Rattle.kernel.specs.WaitQueue.{contains}
-use Rattle.kernel.specs.Kernel.{slot, current, slotOf, isPresent, mutex}
+use Rattle.kernel.specs.Kernel.{slot, current, slotOf, isPresent, mutex, whole}
 use Rattle.kernel.specs.Rank.{priorityOf, ownerSlot, link, noQueues, chain, leadsTo, rank}
 use Rattle.kernel.specs.Scheduler.{slotAfter, isReady, nextTask, saveContext}
 use Rattle.kernel.specs.Calls.{start, switch, step, valueNumber, pickBytes}
@@ -32,8 +32,9 @@ pub record WaitsAt (k : Kernel) (j m : ℕ) : Type 0 where
 pub record Best (k : Kernel) (s : ℕ) : Type 0 where
   pub ready : isReady k s ≡ true
   pub smallest : (j : ℕ) → j < 16 → isReady k j ≡ true → rank k s ≤ rank k j
+  -- it is n slots on from the one after current; n is below 16, since the seventeenth is the first again
   pub n : ℕ
-  pub here : slotAfter (current k) n ≡ s
+  pub place : slotAfter (current k) n ≡ s
   pub first : (m : ℕ) → m < n → isReady k (slotAfter (current k) m) ≡ true → rank k s < rank k (slotAfter (current k) m)
 
 -- what the exported pick is lent for kernel k: the states, 6 for an empty slot, and the ranks
@@ -57,8 +58,11 @@ pub record Ranks (k : Kernel) : Type 0 where
   pub own : (i : ℕ) → rank k i ≤ priorityOf k i
   pub led : (i j : ℕ) → j < 16 → leadsTo (link k) i j ≡ true → rank k i ≤ priorityOf k j
   pub one-of : (i : ℕ) → (rank k i ≡ priorityOf k i) ⊎ ((j : ℕ) × (j < 16) × (leadsTo (link k) i j ≡ true) × (rank k i ≡ priorityOf k j))
-  -- a link goes only from a Blocked task, and by the lowest mutex even where its owner is no present task: it then leads nowhere
+  -- a link goes only from a Blocked task, only if it is queued, and by the lowest mutex even where its owner is no
+  -- present task: it then leads nowhere
   pub blocked-only : (i j : ℕ) → holdsTask Blocked (slot k j) ≡ false → leadsTo (link k) i j ≡ false
+  pub queued-only : (i j : ℕ) → ((m : ℕ) → m < 4 → contains (mutex k m .waiters) (slot k j .id) ≡ false)
+      → leadsTo (link k) i j ≡ false
   pub nowhere : (i j m : ℕ) → m < 4 → WaitsAt k j m → ownerSlot k (mutex k m .owner) ≡ 16 → leadsTo (link k) i j ≡ false
   -- the owner of a mutex at which a Blocked task waits by its lowest one has a rank at most that task's
   pub owner : (j m : ℕ) (a : TaskId) → j < 16 → m < 4 → WaitsAt k j m → mutex k m .owner ≡ Some a → isPresent k a ≡ true → rank k (slotOf k a) ≤ rank k j
@@ -72,12 +76,14 @@ pub record Ranks (k : Kernel) : Type 0 where
   -- "the pick goes by rank"; none Ready, slot 0
   pub best : (i : ℕ) → i < 16 → isReady k i ≡ true → Best k (nextTask k)
   pub none-ready : ((i : ℕ) → i < 16 → isReady k i ≡ false) → nextTask k ≡ 0
-  -- the exported pick, lent the ranks for priorities, is that pick, start's and switch's
-  pub exported : current k < 16 → pickBytes (stateBytes k) (rankBytes k) (current k) ≡ nextTask k
-  pub start-picks : step k start .number ≡ 0
-      → valueNumber (step k start .value) ≡ pickBytes (stateBytes k) (rankBytes k) (current k)
+  -- it is what start answers, and what switch answers once current is saved
+  pub start-picks : step k start .number ≡ 0 → valueNumber (step k start .value) ≡ nextTask k
   pub switch-picks : (arena : List ℕ) (sp : ℕ) → step k (switch arena sp) .number ≡ 0
-      → valueNumber (step k (switch arena sp) .value) ≡ pickBytes (switchBytes k) (rankBytes k) (current k)
+      → valueNumber (step k (switch arena sp) .value) ≡ nextTask (saveContext sp k)
+  -- the exported pick, lent the ranks for priorities, is that pick
+  pub exported : current k < 16 → pickBytes (stateBytes k) (rankBytes k) (current k) ≡ nextTask k
+  pub exported-switch : whole k ≡ true → (sp : ℕ)
+      → pickBytes (switchBytes k) (rankBytes k) (current k) ≡ nextTask (saveContext sp k)
 
 abbrev pub RankGuarantee : Type 0
 RankGuarantee = (k : Kernel) → Ranks k

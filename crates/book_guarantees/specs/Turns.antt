@@ -59,6 +59,10 @@ pub record Rises (j : ℕ) (one : Entry) (between : List Entry) : Type 0 where
   pub five : rise j one between ≤ 5
   pub by-ticks : charge (end (after one) between) j ≡ charge (after one) j + ticksWhile j (after one) between
 
+-- "accepted ticks while others were current" (02, W-206): while any slot but i was, added up over the slots
+abbrev pub ticksWhileOthers : ℕ → Entry → List Entry → ℕ
+ticksWhileOthers i one between = sumBelow (λ j. if eqb j i then 0 else ticksWhile j (after one) between) 16
+
 -- "has exactly one turn between", and its charge "rises by at most 5. In every such stretch the charge" of the first task "also rises by at most 5"; "and the
 -- bound of 75 counts accepted ticks while others were current" (02, W-206). `Peers j b` says that task b of slot j is a peer.
 -- Idle's slice is 1: so where the first task is not idle, whose slot is 0, these ticks are at most 71.
@@ -66,8 +70,8 @@ pub record Fair (Peers : ℕ → TaskId → Type 0) (i : ℕ) (one : Entry) (bet
   pub one-turn : (j : ℕ) (b : TaskId) → Peers j b → turns j between ≡ 1
   pub peers : (j : ℕ) (b : TaskId) → Peers j b → Rises j one between
   pub own : Rises i one between
-  pub others : sumBelow (λ j. if eqb j i then 0 else ticksWhile j (after one) between) 16 ≤ 75
-  pub not-idle : i ≢ 0 → sumBelow (λ j. if eqb j i then 0 else ticksWhile j (after one) between) 16 ≤ 71
+  pub others : ticksWhileOthers i one between ≤ 75
+  pub not-idle : i ≢ 0 → ticksWhileOthers i one between ≤ 71
 
 -- ---- the sentence
 
@@ -88,6 +92,12 @@ abbrev pub TurnGuaranteeByPriority : Type 0
 TurnGuaranteeByPriority = InEveryList (λ one between two. Each (λ e. noQueues (after e) ≡ true) (one ∷ between)
     → (i : ℕ) (a : TaskId) → Stretch priorityOf i a one between two → Fair (Peer priorityOf i one between) i one between)
 
--- Idle's slice, on which the 71 rests: after every list of calls from fresh it is 1.
-abbrev pub IdleSlice : Type 0
-IdleSlice = (k : Kernel) → Reached k → slot k 0 .«time_slice» ≡ 1
+-- ---- idle, on which the 71 rests: after every list of calls from fresh it is in slot 0, with a slice of 1
+
+pub record Idle (k : Kernel) : Type 0 where
+  pub present : slot k 0 .occupied ≡ true
+  pub named : slot k 0 .id .0 ≡ 0
+  pub slice : slot k 0 .«time_slice» ≡ 1
+
+abbrev pub IdleGuarantee : Type 0
+IdleGuarantee = (k : Kernel) → Reached k → Idle k
