@@ -114,8 +114,8 @@ pub record EndsWithin (k′ : Kernel) (i n : ℕ) (o : LimitObject) (t : ℕ) : 
   pub over : t < lastTick → (es : List Entry) → Returned k′ es → n ≤ acceptedTicks es → Keeps i t (end k′ es) → ⊥
 
 pub record LimitGuarantee : Type 0 where
-  -- "a task with a limit is Blocked and stands in that object's queue, and the limit lies after tick_count"
+  -- a task with a limit is Blocked and stands in that object's queue, and the limit lies after tick_count
   pub kept : (k : Kernel) → Reached k → (i : ℕ) → Limited k i → Waiting k i
   pub at-tick : (k : Kernel) → Reached k → step k tick .number ≡ 0 → AtTick k (step k tick)
-  -- "a limited wait ends within its limit of ticks": where the call answers no, it blocked
+  -- a wait with a limit ends within its limit of ticks; where the call answers no, it blocked
   pub ends : (k : Kernel) → Reached k → (n : ℕ) (o : LimitObject) (c : Call) → WithLimit n o c → step k c .value ≡ YesNo false → EndsWithin (step k c .kernel) (current k) n o (min (k .«tick_count» + n) lastTick)

@@ -24,12 +24,12 @@ pub record OneReady (k k′ : Kernel) (i : ℕ) : Type 0 where
 -- of queue q the id at place p was woken; q′ is the queue after
 pub record OneWoken (k k′ : Kernel) (q q′ : WaitQueue) : Type 0 where
   pub p : ℕ
-  -- "and that task was queued there"
+  -- it was queued there
   pub queued : p < q .len
   pub ready : OneReady k k′ (slotOf k (place q p))
   -- it was the first whom a wake turns Ready
   pub first : (j : ℕ) → j < p → wakes (place q j) k ≡ false
-  -- "those behind the woken one keep their places and order"
+  -- "those behind it stay queued in their order, and nobody else does"
   pub shorter : q′ .len ≡ q .len - (p + 1)
   pub behind : (j : ℕ) → j < q′ .len → place q′ j ≡ place q (p + 1 + j)
 
@@ -49,18 +49,19 @@ pub record Wakings (k : Kernel) : Type 0 where
   pub wake-yes : (a : TaskId) → step k (wake a) .value ≡ YesNo true → OneReady k (step k (wake a) .kernel) (slotOf k a)
   pub wake-no : (a : TaskId) → step k (wake a) .value ≡ YesNo false → step k (wake a) .kernel ≡ k
   pub wake-tells : (a : TaskId) → step k (wake a) .number ≡ 0 → (step k (wake a) .value ≡ YesNo true) ⊎ (step k (wake a) .value ≡ YesNo false)
-  -- "a release or signal that answers yes turned exactly one task from Blocked to Ready, and that task was queued there; .. those behind the woken one keep their places and order"
+  -- "A release or signal that answers yes turned exactly one task from Blocked to Ready, the first in the queue that was
+  -- Blocked"
   pub yes : (c : Call) (queue : Kernel → WaitQueue) → ReleaseOrSignal c queue → step k c .value ≡ YesNo true → OneWoken k (step k c .kernel) (queue k) (queue (step k c .kernel))
-  -- "one that answers no left every task as it was and the queue empty"
+  -- "One that is accepted and answers no left every task as it was and the queue empty"
   pub no : (c : Call) (queue : Kernel → WaitQueue) → ReleaseOrSignal c queue → step k c .value ≡ YesNo false → NoneWoken k (step k c .kernel) (queue k) (queue (step k c .kernel))
   pub tells : (c : Call) (queue : Kernel → WaitQueue) → ReleaseOrSignal c queue → step k c .number ≡ 0 → (step k c .value ≡ YesNo true) ⊎ (step k c .value ≡ YesNo false)
   -- an accepted release raises its count in any case
   pub count : (s : ℕ) → step k (release s) .number ≡ 0 → semaphore (step k (release s) .kernel) s .count ≡ semaphore k s .count + 1
-  -- signal sets the flag if none was woken, and only then
+  -- signal sets the flag if none was woken, and only then: an event that is signalled has no queue (Queues.antt)
   pub set : (e : ℕ) → step k (signal e) .value ≡ YesNo false → event (step k (signal e) .kernel) e .signaled ≡ true
   pub not-signaled : (e : ℕ) → step k (signal e) .value ≡ YesNo true
       → event (step k (signal e) .kernel) e .signaled ≡ false
-  -- "an accepted signal is never lost": a task was woken, or the flag is set
+  -- "An accepted signal is never lost"
   pub kept : (e : ℕ) → step k (signal e) .number ≡ 0 → OneWoken k (step k (signal e) .kernel) (event k e .waiters) (event (step k (signal e) .kernel) e .waiters) ⊎ (event (step k (signal e) .kernel) e .signaled ≡ true)
 
 abbrev pub WakeGuarantee : Type 0
