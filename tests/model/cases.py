@@ -576,6 +576,14 @@ tables("limit-ended-by-hand",
         table([UNTOUCHED, task(1, READY), task(2, READY), task(3, RUNNING, left=False, rest=3)], "2,1,3,4,4", semaphores=objects(o0="1,[]"),
               charges="0,0,0,2")))
 
+tables("limit-ended-by-hand-then-blocked-again",
+       "Woken by hand, task 1 waits elsewhere: a release finds it Blocked, wakes it, and does not go on to the next (02, W-201; 05, 8, 20)",
+       *added(128, 128, 128), (START, ok(1, 1)), (ACQUIRE_WITHIN(0, 9), ok(0, 1)), (switch(0), ok(2, 2)), (ACQUIRE(0), ok(0, 2)),
+       (switch(1), ok(3, 3)), (WAKE(1), ok(1, 3)), (switch(2), ok(1, 1)), (EVENT_WAIT(0), ok(0, 1)), (switch(0), ok(3, 3)),
+       (RELEASE(0), ok(1, 3),
+        table([UNTOUCHED, task(1, READY), task(2, BLOCKED), task(3, RUNNING)], "0,1,3,4,4", semaphores=objects(o0="1,[2]"),
+              events=objects(o0="0,[1]"))))
+
 tables("limit-ended-by-status",
        "Status ends a limit, status Blocked too, marked no; the id stays queued, and the limit's tick does nothing (02, W-202; 05, 18, 20)",
        *added(128), (START, ok(1, 1)), (ACQUIRE_WITHIN(1, 1), ok(0, 1)),
@@ -1248,7 +1256,7 @@ def owner_fields(state, owned=1, rest=5, m0="1,-,-,[]", m1="1,-,5,[]", m2="0,5,-
 
 
 odd("owner-and-owned-count",
-    "11 is an owned count above 0, whoever the owner is; 14 compares the owner, locked or not; locked without an owner is another's (03, 14)",
+    "11 is an owned count above 0, whoever the owner is, and with none; 14 compares the owner, locked or not; locked without an owner is another's (03, 14)",
     (given("owner-fields"), ok(0, 1), owner_fields(RUNNING)),
     *[(call, no(number, 1), owner_fields(RUNNING)) for call, number in ((EXIT, 11), (UNLOCK(0), 14), (UNLOCK(1), 14), (LOCK(3), 13))],
     (TRY_LOCK(0), ok(0, 1), owner_fields(RUNNING)), (TRY_LOCK(1), ok(0, 1), owner_fields(RUNNING)),
@@ -1256,7 +1264,8 @@ odd("owner-and-owned-count",
     (LOCK(1), ok(0, 1), owner_fields(BLOCKED, m0="1,-,-,[5]", m1="1,-,5,[5]")),
     (UNLOCK(2), ok(0, 1), owner_fields(BLOCKED, 0, m0="1,-,-,[5]", m1="1,-,5,[5]", m2="0,-,-,[]")),
     (UNLOCK(3), no(15, 1)), (UNLOCK(2), no(14, 1)),
-    (EXIT, ok(0, 1), owner_fields(TERMINATED, 0, 0, "1,-,-,[5]", "1,-,5,[5]", "0,-,-,[]")))
+    (EXIT, ok(0, 1), owner_fields(TERMINATED, 0, 0, "1,-,-,[5]", "1,-,5,[5]", "0,-,-,[]")),
+    (given("count-alone"), ok(0, 1)), (EXIT, no(11, 1)), (UNLOCK(0), no(14, 1)))
 
 # Task 5 runs and 7 waits at its mutex 3, both with a count of 4.
 def four_owned(first=4, second=4, state=BLOCKED, m0="0,-,-,[]", m3="1,5,-,[7]"):

@@ -640,6 +640,7 @@ ODD = [Odd("charged", *given) for given in CHARGED]
 ODD += [
     Odd("owner-fields", tasks={1: (5, 128, RUNNING, {"owned": 1})}, current=1,
         mutexes={0: (True, None, None, []), 1: (True, None, 5, []), 2: (False, 5, None, []), 3: (True, 5, 6, [])}),
+    Odd("count-alone", tasks={1: (5, 128, RUNNING, {"owned": 1})}, current=1),
     Odd("four-owned", tasks={1: (5, 128, RUNNING, {"owned": 4}), 2: (7, 128, BLOCKED, {"owned": 4})}, current=1, mutexes={3: (True, 5, None, [7])}),
     with_slice("with-slice 5 0", 5, 0), with_slice("with-slice 0 0", 0, 0), with_slice("with-slice 0 2", 0, 2),
     twice("both-blocked", BLOCKED, BLOCKED, 200, RUNNING, 3, ({}, {}, {"owned": 1, "waiter": 5}),

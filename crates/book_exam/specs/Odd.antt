@@ -71,6 +71,10 @@ owner-fields =
     (withMutex 3 (mutexOf true (Some (id 5)) (Some (id 6)) emptyQueue)
     (started 2 1 (λ k. at 1 (withOwned 1) (task 1 5 128 Running k))))))
 
+-- task 5 runs, with an owned count of 1, and no mutex has an owner
+pub count-alone : Kernel
+count-alone = started 2 1 (λ k. at 1 (withOwned 1) (task 1 5 128 Running k))
+
 -- task 5, which runs, and task 7, which waits at its mutex 3, have owned counts of 4
 pub four-owned : Kernel
 four-owned =
@@ -133,7 +137,7 @@ empty-slot = at 1 (λ _. unoccupied 5 Blocked) (started 3 3 (λ k. task 3 7 200 
 pub idle-twice : Kernel
 idle-twice = started 2 1 (task 1 0 128 Running)
 
--- every place behind the ids of a queue holds 7, the id of current. Nobody waits at mutex 0, of 5; 5 and 6 wait at
+-- in the queues given every place behind the ids holds 7, the id of current. Nobody waits at mutex 0, of 5; 5 and 6 wait at
 -- mutex 1, of 7; 8, 5 and 6 at semaphores 0 and 1 and at event 0. 6 and 8 are gone; 5 has a limit at semaphore 1
 pub filled-behind : Kernel
 filled-behind =
@@ -164,7 +168,7 @@ own-mutex t = withMutex 0 (mutexOf true (Some (id 5)) None (line (5 ∷ []) 0)) 
 -- all that are given
 pub kernels : List Kernel
 kernels =
-    owner-fields ∷ four-owned ∷ with-slice 5 0 ∷ with-slice 0 0 ∷ with-slice 0 2
+    owner-fields ∷ count-alone ∷ four-owned ∷ with-slice 5 0 ∷ with-slice 0 0 ∷ with-slice 0 2
     ∷ both-blocked ∷ current-twice ∷ ended-twice 1 ∷ ended-twice 2 ∷ empty-slot ∷ idle-twice
     ∷ filled-behind
     ∷ owner-twice ∷ waiter-twice Blocked Blocked ∷ waiter-twice Ready Blocked ∷ waiter-twice Blocked Ready
@@ -230,7 +234,7 @@ ranks k = tabulate (rank k) 4
 
 -- what the cases compute with: to unfold this is to unfold all that its line names
 computed : Unit {0}
-unfolding owner-fields four-owned with-slice both-blocked current-twice ended-twice empty-slot idle-twice filled-behind
+unfolding owner-fields count-alone four-owned with-slice both-blocked current-twice ended-twice empty-slot idle-twice filled-behind
     owner-twice waiter-twice own-mutex seen seen-at counted ticked reaped places ranks
     if_then_else_ every allBelow anyBelow countBelow sumBelow lowestBelow smallestBelow tabulate
     holdsTask unblocked regionFits arenaFits whole freshKernel slotOf atId reapableSlot reapOne
@@ -248,18 +252,18 @@ pub are-whole : every (map whole kernels) ≡ true
 unfolding kernels computed
 are-whole = refl
 
--- reading 14 of 01: 11 is an owned count above 0
+-- reading 14 of 01: 11 is an owned count above 0, also where no mutex has an owner
 -- 14 compares the owner, and a mutex handed to current need not be its own
 -- without an owner a locked mutex is another's, also where it is handed to current
 -- 13 compares the owner, and so does unlock where the mutex is not locked
 -- the count is 0 then: 15; and exit is accepted, though 5 is the owner of mutex 3
 pub by-owner-or-count :
-    seen-at 0 exit owner-fields
+    seen-at 0 exit owner-fields ∷ seen-at 0 exit count-alone
     ∷ seen-at 0 (unlock 0) owner-fields ∷ seen-at 1 (unlock 1) owner-fields
     ∷ seen-at 0 (lock 0) owner-fields ∷ seen-at 1 (lock 1) owner-fields
     ∷ seen-at 3 (lock 3) owner-fields ∷ seen-at 2 (unlock 2) owner-fields
     ∷ seen-at 3 (unlock 3) (after (unlock 2) owner-fields) ∷ seen-at 3 exit (after (unlock 2) owner-fields) ∷ []
-    ≡ (11 ∷ 0 ∷ 1 ∷ 1 ∷ 1 ∷ 0 ∷ [])
+    ≡ (11 ∷ 0 ∷ 1 ∷ 1 ∷ 1 ∷ 0 ∷ []) ∷ (11 ∷ 0 ∷ 1 ∷ 1 ∷ 0 ∷ 0 ∷ [])
     ∷ (14 ∷ 0 ∷ 1 ∷ 1 ∷ 1 ∷ 0 ∷ []) ∷ (14 ∷ 0 ∷ 1 ∷ 1 ∷ 1 ∷ 0 ∷ [])
     ∷ (0 ∷ 0 ∷ 2 ∷ 1 ∷ 1 ∷ 1 ∷ []) ∷ (0 ∷ 0 ∷ 2 ∷ 1 ∷ 1 ∷ 1 ∷ [])
     ∷ (13 ∷ 0 ∷ 1 ∷ 1 ∷ 1 ∷ 0 ∷ []) ∷ (0 ∷ 0 ∷ 1 ∷ 0 ∷ 0 ∷ 0 ∷ [])

@@ -18,7 +18,7 @@ use Rattle.kernel.specs.Kernel.{slot, current}
 use Rattle.kernel.specs.Scheduler.{dropHeads}
 use Rattle.kernel.specs.Semaphore
 use Rattle.kernel.specs.Event
-use Rattle.kernel.specs.Calls.{Call, acquire-within, event-wait-within, release, signal, step, init, initNumber, Reached, fresh, called}
+use Rattle.kernel.specs.Calls.{Call, tick, acquire-within, event-wait-within, release, signal, step, init, initNumber, Reached, fresh, called}
 use Rattle.book_guarantees.specs.Lists.{Entry, after, Returned, acceptedTicks}
 use Rattle.book_guarantees.specs.Wakings.{OneReady, OneWoken, releasing, signalling, Wakings}
 use Rattle.book_guarantees.specs.Limits.{lastTick, WithLimit, acquiring, waiting, Keeps, EndsWithin, LimitEndsAt}
@@ -27,7 +27,7 @@ use Rattle.book_guarantees.proofs.Wakings.{wake-guarantee}
 use Rattle.book_guarantees.proofs.Limits.{limit-guarantee}
 use Rattle.book_examples.specs.Tests.{each, entry, between}
 use Rattle.book_examples.specs.Examples.{run, played, id}
-use Rattle.book_examples.specs.Waits.{kernel, keeps, own-tick-calls, own-tick, before, OwnTick, earlier-calls, earlier, Earlier, LimitMet, OwnTickLimit, EarlierLimit, AtItsTick, wakings-calls, wakings, after-entry, acquirers, WakeAnswers, WakingsMet, limit-between-calls, limit-between, one, calls, two, LimitBetween, LimitBetweenFair}
+use Rattle.book_examples.specs.Waits.{kernel, keeps, own-tick-calls, own-tick, before, OwnTick, earlier-calls, earlier, Earlier, LimitMet, OwnTickLimit, EarlierLimit, AtItsTick, EventTick, wakings-calls, wakings, after-entry, acquirers, WakeAnswers, WakingsMet, limit-between-calls, limit-between, one, calls, two, LimitBetween, LimitBetweenFair}
 use Rattle.book_examples.proofs.Checked.{each-is, stretch-is, unchanging-is, peer-is, peer-unchanging-is}
 use Rattle.book_examples.proofs.Examples.{computed, run-returned}
 
@@ -155,6 +155,18 @@ at-its-tick =
       out = at .semaphores 0 .left (id 3) out;
       wants = at .wants 3 (f .due);
     }
+
+event-ends : LimitEndsAt (kernel earlier 4) (AtEvent 1) (id 1) × (step (kernel earlier 4) tick .number ≡ 0)
+unfolding waits-computed
+event-ends = (record { i = 1; due = record { limited = record { present = refl; limit = refl }; reached = leb-true _ _ refl }; object = refl; named = refl }, refl)
+
+pub event-tick : EventTick
+unfolding earlier earlier-calls
+event-tick =
+    let r = reached-at earlier-calls 4 in
+    let e = event-ends in
+    let at = limit-guarantee .at-tick (kernel earlier 4) r (e .1) in
+    record { reached = r; accepted = e .1; ends = e .0; at-tick = at; out = at .events 1 .left (id 1) (e .0) }
 
 -- ---- wake, release and signal
 

@@ -141,8 +141,8 @@ pub record Earlier : Type 0 where
 
 -- ---- what the limit guarantee says of both
 
--- Entry m + 1 of the list es is the call c, with a limit of n ticks at object o; slot i is current, and the limit ends
--- at tick t. It is kept in the next x entries, and n ticks are accepted in the next y.
+-- Entry m + 1 of the list es answers the call c, with a limit of n ticks at object o; slot i has it, until tick t. It is
+-- kept in the next x entries, and at least n ticks are accepted in the next y.
 pub record LimitMet (es : List Entry) (m i n : ℕ) (o : LimitObject) (c : Call) (t x y : ℕ) : Type 0 where
   -- every premise of `ends`, and what it says
   pub reached : Reached (kernel es m)
@@ -183,6 +183,14 @@ pub record AtItsTick : Type 0 where
   pub slice : slot ticked 1 ≡ spent (slot before 1)
   pub out : contains (semaphore ticked 0 .waiters) (id 3) ≡ false
   pub wants : step before tick .value ≡ YesNo true
+
+-- of the tick by which the first wait of the second list ends, at an event
+pub record EventTick : Type 0 where
+  pub reached : Reached (kernel earlier 4)
+  pub accepted : step (kernel earlier 4) tick .number ≡ 0
+  pub ends : LimitEndsAt (kernel earlier 4) (AtEvent 1) (id 1)
+  pub at-tick : AtTick (kernel earlier 4) (step (kernel earlier 4) tick)
+  pub out : contains (event (kernel earlier 5) 1 .waiters) (id 1) ≡ false
 
 -- ---- wake, release and signal
 

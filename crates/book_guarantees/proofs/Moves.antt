@@ -4,7 +4,7 @@ use native.Mathlib.Omega.{arith}
 use mathlib.Core.Path.{_≡_, refl}
 use lib.ListN.{set}
 use lib.Seq.{getD-set-other}
-use borrow.Author.Tests.{ltb-false}
+use borrow.Author.Tests.{ltb-true, ltb-false}
 use lib.Dec.{ltb}
 use Rattle.base.proofs.Choices.{either}
 use Rattle.base.proofs.Loops.{set-default}
@@ -31,4 +31,6 @@ move-guarantee k = record {
   reap-moves = λ a z. did k (reap a) (slotOf k a) _ z (cleared k (Scheduler.emptied (slotOf k a) k) (slotOf k a) _ refl refl);
   reap-one-moves = λ z h. did k reap-one (reapableSlot k) _ z
       (either (λ (x : Kernel). Cleared k x (reapableSlot k) (charge k (reapableSlot k))) (ltb (reapableSlot k) 16) (λ _. cleared k (Scheduler.emptied (reapableSlot k) k) (reapableSlot k) _ refl refl) (λ n. absurd (omega (arith, ltb-false (reapableSlot k) 16 n))));
+  reap-one-none = λ z h. of-step (λ (a : Answer). a .kernel ≡ k) k reap-one (accepts k reap-one z)
+      (either (λ (x : Kernel). x ≡ k) (ltb (reapableSlot k) 16) (λ l. absurd (omega (arith, h, ltb-true (reapableSlot k) 16 l))) (λ _. refl));
 }

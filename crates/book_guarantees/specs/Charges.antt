@@ -48,6 +48,7 @@ pub record Moves (k : Kernel) : Type 0 where
       → Cleared k (step k (reap a) .kernel) (slotOf k a) (charge k (slotOf k a))
   pub reap-one-moves : step k reap-one .number ≡ 0 → reapableSlot k < 16
       → Cleared k (step k reap-one .kernel) (reapableSlot k) (charge k (reapableSlot k))
+  pub reap-one-none : step k reap-one .number ≡ 0 → reapableSlot k ≡ 16 → step k reap-one .kernel ≡ k
 
 abbrev pub MoveGuarantee : Type 0
 MoveGuarantee = (k : Kernel) → Moves k
