@@ -1,1 +1,2 @@
 // Choices and counted loops, as specifications and proofs of every other crate cite them.
+#![tactic(auto)]

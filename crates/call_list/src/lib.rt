@@ -1,4 +1,5 @@
 // The list call: sched/scheduler.rs of the source.
+#![tactic(auto)]
 ghost use Rattle.std.specs.Prelude.{◌≡◌, true, ◌++◌, ◌+◌, ◌-◌, ◌/◌, ◌<◌, ◌≤◌, min, eqb, length, get_or, take, drop, replicate};
 ghost use Rattle.base.specs.Choice.{if◌then◌else◌};
 ghost use Rattle.kernel.specs.Control.{stack_used};
@@ -11,14 +12,14 @@ use kernel::scheduler::{Answer, Kernel, Value};
 use leaf_table::internal::answer;
 
 // The first `len` records are those of the occupied slots, in slot order.
-#[derive(Drop)]
+#[derive(Clone, Copy)]
 struct Rows {
     rows: [TaskInfo; Kernel::MAX_TASKS],
     len: usize,
 }
 
 // What a list call writes, decided before it does: a refused one has no rows.
-#[derive(Drop)]
+#[derive(Clone, Copy)]
 struct Plan {
     rows: Rows,
     number: u8,
@@ -172,7 +173,7 @@ pub fn tasks(k: Kernel, arena: &[u32], records: &mut [TaskInfo]) -> Answer
 }
 
 // The answer of a list call, and the records that it was made on.
-#[derive(Drop)]
+#[derive(Clone, Copy)]
 pub struct Listed {
     pub answer: Answer,
     pub records: [TaskInfo; Kernel::MAX_TASKS],

@@ -1,4 +1,5 @@
 // Load per thousand: the share of a task in the ticks since the start, and the remainder.
+#![tactic(auto)]
 ghost use Rattle.std.specs.Prelude.{◌≡◌, true, ◌+◌, ◌*◌, ◌≤◌, ◌<◌};
 ghost use Rattle.kernel.specs.Kernel.{charge_sum, whole};
 ghost use Rattle.kernel.specs.Load.{IsLoad};
@@ -10,7 +11,7 @@ use kernel::scheduler::{Answer, Kernel, Value};
 use leaf_table::internal::answer;
 
 // So many times the ticks, and a remainder below them.
-#[derive(Drop)]
+#[derive(Clone, Copy)]
 struct Part {
     share: u32,
     remainder: u64,

@@ -1,4 +1,5 @@
 // Start: sched/scheduler.rs of the source.
+#![tactic(auto)]
 ghost use Rattle.std.specs.Prelude.{◌≡◌, ◌<◌};
 ghost use Rattle.kernel.specs.Calls.{start, number, value, effect, accepted, step};
 ghost use Rattle.kernel.specs.Kernel.{current, whole};

@@ -1,4 +1,5 @@
 // The tick: `update_tick` of sched/scheduler.rs.
+#![tactic(auto)]
 ghost use Rattle.std.specs.Prelude.{◌≡◌, true, ◌||◌, not, ◌-◌, ◌^◌, ◌<◌};
 ghost use Rattle.kernel.specs.WaitQueue.{removed};
 ghost use Rattle.kernel.specs.Kernel.{whole};

@@ -5,24 +5,24 @@ ghost use Rattle.kernel.specs.Update.{with_state, with_waiter, with_time_slice, 
 ghost use Rattle.kernel.specs.Control.{state_number, in_state, same_id, names, is_limit, has_limit, object_fits, limit_ended, entered, expired, blank_slot};
 
 // A place in the table, 0 to 15; never taken for a task's id.
-#[derive(Drop)]
+#[derive(Clone, Copy)]
 pub struct SlotIndex(pub usize);
 
-#[derive(Drop)]
+#[derive(Clone, Copy)]
 pub struct TaskId(pub u32);
 
 // Smaller is better.
-#[derive(Drop)]
+#[derive(Clone, Copy)]
 pub struct Priority(pub u8);
 
 // The source's `Option<TaskId>`.
-#[derive(Drop)]
+#[derive(Clone, Copy)]
 pub enum OptionTaskId {
     None,
     Some(TaskId),
 }
 
-#[derive(Drop)]
+#[derive(Clone, Copy)]
 pub enum TaskState {
     Ready,
     Running,
@@ -33,14 +33,14 @@ pub enum TaskState {
 }
 
 // Start and size in bytes from the arena's start.
-#[derive(Drop)]
+#[derive(Clone, Copy)]
 pub struct StackRegion {
     pub start: u32,
     pub size: u32,
 }
 
 // The object of a wait that has a limit, with its number, or none.
-#[derive(Drop)]
+#[derive(Clone, Copy)]
 pub enum LimitObject {
     NoLimit,
     AtSemaphore(u8),
@@ -49,7 +49,7 @@ pub enum LimitObject {
 
 // A slot of the table: the source's `Option<TaskControl>`, where `occupied` stands for `Some`. `sp` and `result` stand for the processor context.
 // The order keeps it at 64 bytes.
-#[derive(Drop)]
+#[derive(Clone, Copy)]
 pub struct TaskControl {
     pub occupied: bool,
     pub state: TaskState,
@@ -71,7 +71,7 @@ pub struct TaskControl {
 }
 
 // A record of the list call.
-#[derive(Drop)]
+#[derive(Clone, Copy)]
 pub struct TaskInfo {
     pub id: TaskId,
     pub state: TaskState,

@@ -4,7 +4,7 @@ ghost use Rattle.kernel.specs.Kernel.{new_event};
 
 use crate::wait_queue::WaitQueue;
 
-#[derive(Drop)]
+#[derive(Clone, Copy)]
 pub struct Event {
     pub signaled: bool,
     pub waiters: WaitQueue,

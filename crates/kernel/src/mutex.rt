@@ -5,7 +5,7 @@ ghost use Rattle.kernel.specs.Kernel.{new_mutex};
 use crate::control::OptionTaskId;
 use crate::wait_queue::WaitQueue;
 
-#[derive(Drop)]
+#[derive(Clone, Copy)]
 pub struct Mutex {
     pub locked: bool,
     pub owner: OptionTaskId,

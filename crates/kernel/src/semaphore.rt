@@ -4,7 +4,7 @@ ghost use Rattle.kernel.specs.Kernel.{new_semaphore};
 
 use crate::wait_queue::WaitQueue;
 
-#[derive(Drop)]
+#[derive(Clone, Copy)]
 pub struct Semaphore {
     pub count: u32,
     pub waiters: WaitQueue,

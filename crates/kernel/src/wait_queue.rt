@@ -5,7 +5,7 @@ ghost use Rattle.kernel.specs.WaitQueue.{empty_queue};
 use crate::control::TaskId;
 
 // The first `len` ids wait, the oldest first.
-#[derive(Drop)]
+#[derive(Clone, Copy)]
 pub struct WaitQueue {
     pub ids: [TaskId; WaitQueue::MAX_WAITERS],
     pub len: usize,

@@ -1,2 +1,3 @@
 // What the calls are made of. No calls.
+#![tactic(auto)]
 pub mod internal;

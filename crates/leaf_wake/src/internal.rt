@@ -6,7 +6,7 @@ use kernel::scheduler::Kernel;
 use kernel::wait_queue::WaitQueue;
 
 // What is left of a queue, and the slot of the task to be woken; 16 where there is none.
-#[derive(Drop)]
+#[derive(Clone, Copy)]
 pub struct Woken {
     pub waiters: WaitQueue,
     pub slot: usize,

@@ -1,2 +1,3 @@
 // What release and signal share. No calls.
+#![tactic(auto)]
 pub mod internal;

@@ -50,7 +50,7 @@ fn is_occupied(k: Kernel, i: usize) -> bool
 }
 
 // What one walk over the slots finds.
-#[derive(Drop)]
+#[derive(Clone, Copy)]
 struct Slots {
     regions: bool,
     owned: bool,

@@ -1,2 +1,3 @@
 // Whether a kernel is whole, which every call asks first.
+#![tactic(auto)]
 pub mod internal;

@@ -1,10 +1,11 @@
 // A line of the notation of `turns` or `tables`, and the frame that it writes: operation, k and y.
+#![tactic(auto)]
 ghost use Rattle.std.specs.Prelude.{◌≡◌, true, ◌+◌, ◌*◌, ◌<◌, ltb, get_or};
 ghost use Rattle.line_frame.specs.Frame.{empty_line, digit, byte_of, byte_at, is_hex, operations, operation_of, uses_k, uses_y, k_fits, y_fits, in_range, y_of, operands_fit, malformed, frame_of};
 
 // The operations in the order of their numbers: 0x01 to 0x14, which `turns` has, and 0x15 to 0x18 and 0x1b to 0x1f,
 // which `tables` has too.
-#[derive(Drop)]
+#[derive(Clone, Copy)]
 pub enum Operation {
     Unknown,
     Add,
@@ -38,7 +39,7 @@ pub enum Operation {
     Init,
 }
 
-#[derive(Drop)]
+#[derive(Clone, Copy)]
 pub struct Frame {
     pub operation: Operation,
     pub k: u8,
@@ -46,7 +47,7 @@ pub struct Frame {
 }
 
 // A line so far: its first twelve bytes, and how many there are; 13 stands for more than twelve.
-#[derive(Drop)]
+#[derive(Clone, Copy)]
 pub struct Line {
     pub bytes: [u8; Line::ROOM],
     pub len: usize,

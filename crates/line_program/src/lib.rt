@@ -1,4 +1,5 @@
 // What the programs `turns` and `tables` share: their arguments, reading and writing.
+#![tactic(auto)]
 ghost use Rattle.std.specs.Prelude.{◌≡◌, ◌*◌, ◌≤◌, ◌<◌, length};
 ghost use Rattle.kernel.specs.Calls.{Reached};
 ghost use Rattle.line_session.specs.Session.{reply_room};
@@ -7,7 +8,7 @@ use libc::{STDERR_FILENO, STDIN_FILENO, STDOUT_FILENO};
 use line_session::Session;
 
 // The session after a chunk of the input, and whether to read on.
-#[derive(Drop)]
+#[derive(Clone, Copy)]
 struct Read {
     session: Session,
     more: bool,

@@ -1,4 +1,5 @@
 // The work of the programs `turns` and `tables`: input in chunks, and what is printed for it.
+#![tactic(auto)]
 ghost use Rattle.std.specs.Prelude.{◌≡◌, length};
 ghost use Rattle.kernel.specs.Calls.{init_words};
 ghost use Rattle.line_session.specs.Session.{opened};
@@ -8,7 +9,7 @@ use line_frame::Line;
 
 pub mod internal;
 
-#[derive(Drop)]
+#[derive(Clone, Copy)]
 pub struct Session {
     pub kernel: Kernel,
     pub line: Line,
@@ -27,7 +28,7 @@ impl Session {
 }
 
 // The session after some input, and how many bytes were written.
-#[derive(Drop)]
+#[derive(Clone, Copy)]
 pub struct Played {
     pub session: Session,
     pub len: usize,

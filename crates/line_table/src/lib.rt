@@ -1,2 +1,3 @@
 // A kernel as `tables` prints it.
+#![tactic(auto)]
 pub mod internal;
