@@ -1,5 +1,6 @@
 // Acquire and try acquire of a semaphore: synchronization/semaphore.rs of the source.
 #![tactic(auto)]
+
 ghost use Rattle.std.specs.Prelude.{drop, ◌≡◌, ◌<◌};
 ghost use Rattle.kernel.specs.Kernel.{current, semaphore, whole};
 ghost use Rattle.kernel.specs.Semaphore.{has_permit, permit_taken, blocked_on_semaphore};

@@ -1,5 +1,6 @@
 // A new task: `add_task` of sched/scheduler.rs.
 #![tactic(auto)]
+
 ghost use Rattle.std.specs.Prelude.{List, length, drop, ◌≡◌, ◌&&◌, ◌<◌, ◌≤◌, ◌^◌, ℕ};
 ghost use Rattle.kernel.specs.Control.{region_end, regions_overlap};
 ghost use Rattle.kernel.specs.Kernel.{whole};

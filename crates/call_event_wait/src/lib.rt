@@ -1,5 +1,6 @@
 // Wait for an event: synchronization/event.rs of the source.
 #![tactic(auto)]
+
 ghost use Rattle.std.specs.Prelude.{drop, ◌≡◌, ◌<◌};
 ghost use Rattle.kernel.specs.Kernel.{current, whole};
 ghost use Rattle.kernel.specs.Event.{signal_taken, blocked_on_event};

@@ -1,5 +1,6 @@
 // Exit: sched/scheduler.rs of the source.
 #![tactic(auto)]
+
 ghost use Rattle.std.specs.Prelude.{drop, ◌≡◌, ◌<◌};
 ghost use Rattle.kernel.specs.Kernel.{current, whole};
 ghost use Rattle.kernel.specs.Scheduler.{terminated, wake_waiter};

@@ -1,5 +1,6 @@
 // A fresh kernel: `init` of the source.
 #![tactic(auto)]
+
 ghost use Rattle.std.specs.Prelude.{◌≡◌, length};
 ghost use Rattle.kernel.specs.Kernel.{idle_task, fresh_kernel};
 ghost use Rattle.kernel.specs.Calls.{init_number, init, init_words};

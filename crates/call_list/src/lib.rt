@@ -1,5 +1,6 @@
 // The list call: sched/scheduler.rs of the source.
 #![tactic(auto)]
+
 ghost use Rattle.std.specs.Prelude.{◌≡◌, true, ◌++◌, ◌+◌, ◌-◌, ◌/◌, ◌<◌, ◌≤◌, min, eqb, length, get_or, take, drop, replicate};
 ghost use Rattle.base.specs.Choice.{if◌then◌else◌};
 ghost use Rattle.kernel.specs.Control.{stack_used};

@@ -1,5 +1,6 @@
 // Load per thousand: the share of a task in the ticks since the start, and the remainder.
 #![tactic(auto)]
+
 ghost use Rattle.std.specs.Prelude.{◌≡◌, true, ◌+◌, ◌*◌, ◌≤◌, ◌<◌};
 ghost use Rattle.kernel.specs.Kernel.{charge_sum, whole};
 ghost use Rattle.kernel.specs.Load.{IsLoad};

@@ -1,5 +1,6 @@
 // Lock of a mutex: synchronization/mutex.rs of the source.
 #![tactic(auto)]
+
 ghost use Rattle.std.specs.Prelude.{drop, ◌≡◌, ◌&&◌, ◌<◌, ◌≤◌};
 ghost use Rattle.kernel.specs.Kernel.{slot, current, current_task_id, slot_of, whole};
 ghost use Rattle.kernel.specs.Mutex.{owns_mutex, is_handed, handoff_done, blocked_on_mutex, lock_answer};

@@ -1,5 +1,6 @@
 // Reap and reap one: sched/scheduler.rs of the source.
 #![tactic(auto)]
+
 ghost use Rattle.std.specs.Prelude.{◌≡◌, not, ◌&&◌, ◌<◌, ◌≤◌, eqb, leb};
 ghost use Rattle.kernel.specs.declared.control.TaskState.TheVariants.{Terminated};
 ghost use Rattle.kernel.specs.declared.scheduler.Value.TheVariants.{Region};

@@ -1,5 +1,6 @@
 // Release of a semaphore: synchronization/semaphore.rs of the source.
 #![tactic(auto)]
+
 ghost use Rattle.std.specs.Prelude.{◌≡◌, ◌<◌};
 ghost use Rattle.kernel.specs.Kernel.{semaphore, whole};
 ghost use Rattle.kernel.specs.Calls.{release, number, value, effect, accepted, step};

@@ -1,5 +1,6 @@
 // Signal of an event: synchronization/event.rs of the source.
 #![tactic(auto)]
+
 ghost use Rattle.std.specs.Prelude.{◌≡◌, ◌<◌};
 ghost use Rattle.kernel.specs.Calls.{signal, number, value, effect, accepted, step};
 ghost use Rattle.kernel.specs.Kernel.{whole};

@@ -1,5 +1,6 @@
 // Start: sched/scheduler.rs of the source.
 #![tactic(auto)]
+
 ghost use Rattle.std.specs.Prelude.{◌≡◌, ◌<◌};
 ghost use Rattle.kernel.specs.Calls.{start, number, value, effect, accepted, step};
 ghost use Rattle.kernel.specs.Kernel.{current, whole};

@@ -1,5 +1,6 @@
 // Switch: sched/scheduler.rs of the source.
 #![tactic(auto)]
+
 ghost use Rattle.std.specs.Prelude.{◌≡◌, not, ◌+◌, ◌/◌, ◌<◌, ◌≤◌, length};
 ghost use Rattle.base.specs.Choice.{if◌then◌else◌};
 ghost use Rattle.kernel.specs.Control.{sp_in_range, stack_guard_ok};

@@ -1,5 +1,6 @@
 // The tick: `update_tick` of sched/scheduler.rs.
 #![tactic(auto)]
+
 ghost use Rattle.std.specs.Prelude.{◌≡◌, true, ◌||◌, not, ◌-◌, ◌^◌, ◌<◌};
 ghost use Rattle.kernel.specs.WaitQueue.{removed};
 ghost use Rattle.kernel.specs.Kernel.{whole};

@@ -1,5 +1,6 @@
 // Milliseconds back from ticks; the way there is `ms_to_ticks` of timer.rs.
 #![tactic(auto)]
+
 ghost use Rattle.std.specs.Prelude.{◌≡◌, ◌*◌, ◌/◌, ◌≤◌, ◌<◌};
 ghost use Rattle.kernel.specs.Calls.{ticks_to_ms, step};
 

@@ -1,5 +1,6 @@
 // Try lock of a mutex: synchronization/mutex.rs of the source.
 #![tactic(auto)]
+
 ghost use Rattle.std.specs.Prelude.{◌≡◌, ◌<◌, ◌≤◌};
 ghost use Rattle.kernel.specs.Kernel.{slot, current, current_task_id, slot_of};
 ghost use Rattle.kernel.specs.Calls.{try_lock, effect, step};

@@ -1,5 +1,6 @@
 // Unlock of a mutex: synchronization/mutex.rs of the source.
 #![tactic(auto)]
+
 ghost use Rattle.std.specs.Prelude.{drop, ◌≡◌, true, ℕ, ◌<◌, ◌≤◌};
 ghost use Rattle.kernel.specs.Kernel.{slot, current, current_task_id, slot_of, mutex, whole};
 ghost use Rattle.kernel.specs.WaitQueue.{head};

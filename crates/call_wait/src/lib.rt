@@ -1,5 +1,6 @@
 // Wait: sched/scheduler.rs of the source.
 #![tactic(auto)]
+
 ghost use Rattle.std.specs.Prelude.{drop, ◌≡◌, not, ◌&&◌, ◌<◌};
 ghost use Rattle.kernel.specs.declared.control.TaskState.TheVariants.{Terminated};
 ghost use Rattle.kernel.specs.Control.{in_state};

@@ -1,5 +1,6 @@
 // Calls on the task of an id: wake, and the result of a system call. sched/scheduler.rs of the source.
 #![tactic(auto)]
+
 ghost use Rattle.std.specs.Prelude.{◌≡◌, not};
 ghost use Rattle.base.specs.Choice.{if◌then◌else◌};
 ghost use Rattle.kernel.specs.Kernel.{is_present, whole};

@@ -1,5 +1,6 @@
 // The task table of document 01: its types, with their constants and constructors. The definitions that every contract cites are in specs/.
 #![tactic(auto)]
+
 pub mod control;
 pub mod event;
 pub mod internal;

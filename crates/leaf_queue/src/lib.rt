@@ -1,5 +1,6 @@
 // Operations on a wait queue: synchronization/wait_queue.rs of the source. Module `lent` has them on a queue that is lent, as the source does; here each takes a queue and returns one. Any queue is taken, whatever its length says.
 #![tactic(auto)]
+
 pub mod lent;
 
 ghost use Rattle.std.specs.Prelude.{◌≡◌, not, ◌&&◌, ◌<◌};

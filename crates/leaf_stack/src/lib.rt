@@ -1,5 +1,6 @@
 // The words of the arena under a task's stack: `fill_u32` and `count_prefix_u32` of the source's stack region.
 #![tactic(auto)]
+
 pub mod internal;
 
 ghost use Rattle.std.specs.Prelude.{◌≡◌};

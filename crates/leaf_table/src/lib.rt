@@ -1,3 +1,4 @@
 // What the calls are made of. No calls.
 #![tactic(auto)]
+
 pub mod internal;

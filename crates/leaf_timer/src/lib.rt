@@ -1,5 +1,6 @@
 // timer.rs of the source.
 #![tactic(auto)]
+
 ghost use Rattle.std.specs.Prelude.{◌≡◌};
 ghost use Rattle.kernel.specs.Timer.{ms_to_ticks};
 

@@ -1,3 +1,4 @@
 // What release and signal share. No calls.
 #![tactic(auto)]
+
 pub mod internal;

@@ -1,5 +1,6 @@
 // A line of the notation of `turns` or `tables`, and the frame that it writes: operation, k and y.
 #![tactic(auto)]
+
 ghost use Rattle.std.specs.Prelude.{◌≡◌, true, ◌+◌, ◌*◌, ◌<◌, ltb, get_or};
 ghost use Rattle.line_frame.specs.Frame.{empty_line, digit, byte_of, byte_at, is_hex, operations, operation_of, uses_k, uses_y, k_fits, y_fits, in_range, y_of, operands_fit, malformed, frame_of};
 

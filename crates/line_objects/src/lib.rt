@@ -1,3 +1,4 @@
 // The objects of a kernel as `tables` prints them.
 #![tactic(auto)]
+
 pub mod internal;

@@ -1,5 +1,6 @@
 // What the programs `turns` and `tables` share: their arguments, reading and writing.
 #![tactic(auto)]
+
 ghost use Rattle.std.specs.Prelude.{◌≡◌, ◌*◌, ◌≤◌, ◌<◌, length};
 ghost use Rattle.kernel.specs.Calls.{Reached};
 ghost use Rattle.line_session.specs.Session.{reply_room};

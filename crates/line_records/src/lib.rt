@@ -1,3 +1,4 @@
 // The records of a list call as `tables` prints them.
 #![tactic(auto)]
+
 pub mod internal;

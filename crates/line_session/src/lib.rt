@@ -1,5 +1,6 @@
 // The work of the programs `turns` and `tables`: input in chunks, and what is printed for it.
 #![tactic(auto)]
+
 ghost use Rattle.std.specs.Prelude.{◌≡◌, length};
 ghost use Rattle.kernel.specs.Calls.{init_words};
 ghost use Rattle.line_session.specs.Session.{opened};

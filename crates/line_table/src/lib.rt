@@ -1,3 +1,4 @@
 // A kernel as `tables` prints it.
 #![tactic(auto)]
+
 pub mod internal;

@@ -1,3 +1,4 @@
 // Text in ASCII, written into a lent slice.
 #![tactic(auto)]
+
 pub mod internal;

@@ -1,5 +1,6 @@
 // The choice of the next task over bytes, for C. Module `internal` has the same over the table.
 #![tactic(auto)]
+
 ghost use Rattle.std.specs.Prelude.{◌≡◌, ℕ, ◌<◌, eqb, ltb, length, get_or};
 ghost use Rattle.base.specs.Choice.{if◌then◌else◌};
 ghost use Rattle.base.specs.Below.{any_below};

@@ -1,5 +1,6 @@
 // A whole list of lines at once, for C and Rust to link.
 #![tactic(auto)]
+
 ghost use Rattle.std.specs.Prelude.{◌≤◌, false, length};
 ghost use Rattle.line_text.specs.Text.{Writes};
 ghost use Rattle.line_session.specs.Session.{printed};
