@@ -2,4 +2,3 @@ pub mod Reached
 pub mod Listing
 pub mod Fresh
 pub mod Plain
-pub mod Apart

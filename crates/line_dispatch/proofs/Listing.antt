@@ -1,6 +1,5 @@
--- Sixteen records are as good as more: a whole kernel has at most sixteen tasks. So a list call on `min room 16` of them
--- answers what one on `room` does, and writes what that adds.
-use Prim.Native.Nat.{ℕ, ◌≤◌, ◌<◌, min}
+-- Sixteen records are as good as more: a whole kernel has at most sixteen tasks. So a list call on `min room 16` of them answers and adds what one on `room` does.
+use Prim.Native.Nat.{ℕ, zero, suc, ◌≤◌, ◌<◌, min}
 use native.Mathlib.Omega.{arith}
 use mathlib.Core.Path.{◌≡◌, refl, sym, ap, ◌∙◌}
 use mathlib.Core.Bool.{Bool, true, false, not}
@@ -76,3 +75,16 @@ same_records k arena room behind e = infos_text k arena _ behind (same_number k 
 pub nothing_added : (k : Kernel) (arena : List ℕ) (room : ℕ) → (number k (list arena (blank_records room)) ≡ 0 → ⊥) → [] ≡ list_adds k arena room
 unfolding list_adds
 nothing_added k arena room h = left _ _ _ _ (ne_eqb _ 0 h) refl
+
+same_adds : (k : Kernel) (arena : List ℕ) (room : ℕ) → list_adds k arena (min room 16) ≡ list_adds k arena room
+same_adds k arena room = by_cases (number k (list arena (blank_records room))) refl
+  where
+    by_cases : (n : ℕ) → number k (list arena (blank_records room)) ≡ n → list_adds k arena (min room 16) ≡ list_adds k arena room
+    by_cases zero e = adds_infos k arena (min room 16) (same_number k arena room ∙ e) ∙ sym (adds_infos k arena room e)
+    by_cases (suc n) e = sym (nothing_added k arena (min room 16) (λ z. omega (arith, e, sym (same_number k arena room) ∙ z))) ∙ nothing_added k arena room (λ z. omega (arith, e, z))
+
+-- a call on sixteen
+pub sixteen : (k : Kernel) (arena : List ℕ) (room : ℕ) → 16 ≤ room → (list_answer k arena 16 ≡ list_answer k arena room) × (list_adds k arena 16 ≡ list_adds k arena room)
+sixteen k arena room h =
+    let most : 16 ≡ min room 16 = omega arith in
+    (ap (list_answer k arena) most ∙ same_answer k arena room, ap (list_adds k arena) most ∙ same_adds k arena room)

@@ -10,13 +10,12 @@ use Rattle.kernel.specs.declared.scheduler.Value.TheVariants.{Nothing}
 use Rattle.kernel.specs.declared.scheduler.Answer.{Answer}
 use Rattle.kernel.specs.Control.{paint}
 use Rattle.kernel.specs.Timer.{ms_to_ticks}
-use Rattle.kernel.specs.Calls.{Call, add, start, tick, switch, current_id, status, block, sleep, wake, exit, wait, reap, reap_one, result, lock, try_lock, unlock, acquire, acquire_within, try_acquire, release, event_wait, event_wait_within, signal, list, ticks_to_ms, load, number, accepted, refused, step, add_words, list_records, init_number, init, init_words}
+use Rattle.kernel.specs.Calls.{Call, add, start, tick, switch, current_id, status, block, sleep, wake, exit, wait, reap, reap_one, result, lock, try_lock, unlock, acquire, acquire_within, try_acquire, release, event_wait, event_wait_within, signal, list, ticks_to_ms, number, accepted, refused, step, add_words, list_records, init_number, init, init_words}
 use Rattle.line_frame.specs.declared.Operation.{Operation}
-use Rattle.line_frame.specs.declared.Operation.TheVariants.{Unknown, Add, Start, Tick, Switch, Exit, Wait, Reap, Sleep, Wake, Lock, Unlock, TryLock, Acquire, TryAcquire, Release, EventWait, Signal, Status, Block, ReapOne, AcquireWithin, EventWaitWithin, Load, TicksToMs, CurrentId, Result, Word, Init}
+use Rattle.line_frame.specs.declared.Operation.TheVariants.{Unknown, Add, Start, Tick, Switch, Exit, Wait, Reap, Sleep, Wake, Lock, Unlock, TryLock, Acquire, TryAcquire, Release, EventWait, Signal, Status, Block, ReapOne, AcquireWithin, EventWaitWithin, TicksToMs, CurrentId, Result, Word, Init}
 use Rattle.line_frame.specs.declared.Frame.{Frame}
 use Rattle.call_list.specs.Records.{blank_info}
 use Rattle.line_records.specs.RecordsText.{list_text}
-use Rattle.line_answer.specs.AnswerLine.{remainder_text}
 
 -- ---- what is asked for
 
@@ -29,8 +28,6 @@ pub data Request : Type 0 where
   adding : Priority → StackRegion → Request
   -- a list call, on so many blank records
   listing : ℕ → Request
-  -- a load call, for that id
-  loading : TaskId → Request
   -- no call: that word of the arena becomes another
   word : ℕ → ℕ → Request
   -- a fresh kernel with that hz, on the arena, in the place of this one
@@ -80,7 +77,6 @@ request_of hz arena Block k y = call block
 request_of hz arena ReapOne k y = call reap_one
 request_of hz arena AcquireWithin k y = call (acquire_within k y)
 request_of hz arena EventWaitWithin k y = call (event_wait_within k y)
-request_of hz arena Load k y = loading (id_of y)
 request_of hz arena TicksToMs k y = call (ticks_to_ms (ticks_of k y))
 request_of hz arena Operation.List k y = listing k
 request_of hz arena CurrentId k y = call current_id
@@ -112,7 +108,6 @@ answered k arena none = refused 0xff k
 answered k arena (call c) = step k c
 answered k arena (adding p r) = step k (add arena p r)
 answered k arena (listing room) = list_answer k arena room
-answered k arena (loading a) = step k (load a)
 answered k arena (word at w) = accepted Nothing k
 answered k arena (fresh hz) = fresh_for k hz (length arena)
 
@@ -126,7 +121,6 @@ words_of k arena none = arena
 words_of k arena (call c) = arena
 words_of k arena (adding p r) = add_words k p r arena
 words_of k arena (listing room) = arena
-words_of k arena (loading a) = arena
 words_of k arena (word at w) = set arena at w
 words_of k arena (fresh hz) = init_words hz arena
 
@@ -141,16 +135,11 @@ list_adds k arena room =
     let records = blank_records room in
     if eqb (number k (list arena records)) 0 then list_text k.task_count (list_records k arena records) else []
 
--- an accepted load call adds its remainder
-unfoldable pub load_adds : Answer → List ℕ
-load_adds answer = if eqb answer.number 0 then remainder_text answer.value else []
-
 abbrev pub added_by : Kernel → List ℕ → Request → List ℕ
 added_by k arena none = []
 added_by k arena (call c) = []
 added_by k arena (adding p r) = []
 added_by k arena (listing room) = list_adds k arena room
-added_by k arena (loading a) = load_adds (step k (load a))
 added_by k arena (word at w) = []
 added_by k arena (fresh hz) = []
 

@@ -1,10 +1,10 @@
 // A frame played on a kernel. Where `known` is true the caller knows that the kernel is whole, so it is not looked at again.
-ghost use Rattle.std.specs.Prelude.{◌≡◌, true, ◌||◌, not, [], ◌+◌, ◌≤◌, length, set};
+ghost use Rattle.std.specs.Prelude.{◌≡◌, true, ◌||◌, not, ◌+◌, ◌≤◌, eqb, length, set};
+ghost use Rattle.base.specs.Choice.{if◌then◌else◌};
 ghost use Rattle.kernel.specs.Kernel.{whole};
-ghost use Rattle.kernel.specs.Calls.{ticks_to_ms, load, step, init_words};
+ghost use Rattle.kernel.specs.Calls.{current_id, result, acquire_within, event_wait_within, ticks_to_ms, step, init_words};
 ghost use Rattle.line_text.specs.Text.{Writes};
-ghost use Rattle.line_frame.specs.Frame.{OfTurns, OfTables};
-ghost use Rattle.line_dispatch.specs.Dispatch.{signed_byte, word_of, ticks_of, fresh_for, list_answer, list_adds, load_adds, answer_to, words_after, added_to};
+ghost use Rattle.line_dispatch.specs.Dispatch.{id_of, signed_byte, word_of, ticks_of, fresh_for, list_answer, list_adds, answer_to, words_after, added_to};
 
 use kernel::control::{Priority, StackRegion, TaskControl, TaskId};
 use kernel::scheduler::{Answer, Kernel, Value};
@@ -16,7 +16,7 @@ const NO_CALL: u8 = 255;
 
 // A signed byte.
 fn signed(k: u8) -> i32
-    ensures { result ≡ signed_byte k }
+    ensures* { λ r. ⌜ r ≡ signed_byte k ⌝ }
 {
     if k < 128 {
         return k as i32;
@@ -26,13 +26,13 @@ fn signed(k: u8) -> i32
 
 // What a word becomes.
 fn word_of(k: u8) -> u32
-    ensures { result ≡ word_of k }
+    ensures* { λ r. ⌜ r ≡ word_of k ⌝ }
 {
     if k == 0 { 0 } else { TaskControl::STACK_MAGIC }
 }
 
 fn set_word(arena: &mut [u32], at: usize, word: u32)
-    ensures { arena.new ≡ set arena.old at word }
+    ensures* { λ _. ⌜ arena.new ≡ set arena.old at word ⌝ }
 {
     if at < arena.len() {
         arena[at] = word;
@@ -41,7 +41,7 @@ fn set_word(arena: &mut [u32], at: usize, word: u32)
 
 // A fresh kernel takes the place of k, unless it is refused.
 fn init(k: Kernel, hz: u32, arena: &mut [u32]) -> Answer
-    ensures { (result ≡ fresh_for k hz (length arena.old)) × (arena.new ≡ init_words hz arena.old) }
+    ensures* { λ r. ⌜ (r ≡ fresh_for k hz (length arena.old)) × (arena.new ≡ init_words hz arena.old) ⌝ }
 {
     let a = call_init::init(hz, arena);
     if a.number != 0 {
@@ -53,8 +53,8 @@ fn init(k: Kernel, hz: u32, arena: &mut [u32]) -> Answer
 // A list call on that many records; what it adds to its answer is written into `out`.
 fn list(k: Kernel, room: usize, arena: &[u32], out: &mut [u8], at: &mut usize) -> Answer
     requires { at.old + 1681 ≤ length out.old }
-    ensures value { (result ≡ list_answer k arena.now room) × Writes out.old at.old (list_adds k arena.now room) out.new at.new }
-    ensures short { at.new ≤ at.old + 1681 }
+    ensures* fact { λ r. ⌜ (r ≡ list_answer k arena.now room) × Writes out.old at.old (list_adds k arena.now room) out.new at.new ⌝ }
+    ensures* short { λ r. ⌜ at.new ≤ at.old + 1681 ⌝ }
 {
     let listed = call_list::list_up_to(k, arena, room);
     let answer = listed.answer;
@@ -65,35 +65,44 @@ fn list(k: Kernel, room: usize, arena: &[u32], out: &mut [u8], at: &mut usize) -
     answer
 }
 
-// A load call; the remainder that it adds to its answer is written into `out`.
-fn load(k: Kernel, id: TaskId, out: &mut [u8], at: &mut usize) -> Answer
-    requires { at.old + 17 ≤ length out.old }
-    ensures value { (result ≡ step k (load id)) × Writes out.old at.old (load_adds (step k (load id))) out.new at.new }
-    ensures short { at.new ≤ at.old + 17 }
+// The calls that `turns` has not: 0 current id, 1 result, 2 acquire with a limit, 3 event wait with a limit, 4 milliseconds from ticks.
+fn other(k: Kernel, which: u8, b: u8, y: u32) -> Answer
+    ensures* { λ r. ⌜ r ≡ step k (if eqb which 0 then current_id else if eqb which 1 then result (id_of y) (signed_byte b) else if eqb which 2 then acquire_within b y else if eqb which 3 then event_wait_within b y else ticks_to_ms (ticks_of b y)) ⌝ }
 {
-    let loaded = call_load::load(k, id);
-    if loaded.number == 0 {
-        let value = loaded.value;
-        *at = line_answer::internal::put_remainder(out, *at, value);
-    }
-    loaded
-}
-
-// Milliseconds from ticks, y × 2^b of them.
-fn ticks_to_ms(k: Kernel, b: u8, y: u32) -> Answer
-    ensures { result ≡ step k (ticks_to_ms (ticks_of b y)) }
-{
+    let id = TaskId(y);
+    let object = b as usize;
     let ticks = y as u64;
+    if which == 0 {
+        return call_status::current_task_id(k);
+    }
+    if which == 1 {
+        return call_wake::set_syscall_result(k, id, signed(b));
+    }
+    if which == 2 {
+        return call_acquire::acquire_within(k, object, ticks);
+    }
+    if which == 3 {
+        return call_event_wait::wait_within(k, object, ticks);
+    }
+    // Called from two places, which keeps its division out of the functions that start and switch are taken into.
     if b < 32 {
         return call_timer::ticks_to_ms(k, ticks << b);
     }
     call_timer::ticks_to_ms(k, ticks << 32)
 }
 
-// The operations of `turns`; no line of these adds anything to its answer.
-pub fn dispatch(k: Kernel, known: bool, f: Frame, arena: &mut [u32]) -> Answer
-    requires { ((not known || whole k) ≡ true) × OfTurns f.operation }
-    ensures { (result ≡ answer_to k arena.old f) × (arena.new ≡ words_after k arena.old f) × (added_to k arena.old f ≡ []) }
+// What the line adds to its answer is written into `out`, and `at` moves behind it.
+pub fn dispatch(
+    k: Kernel,
+    known: bool,
+    f: Frame,
+    arena: &mut [u32],
+    out: &mut [u8],
+    at: &mut usize,
+) -> Answer
+    requires { ((not known || whole k) ≡ true) × (at.old + 1681 ≤ length out.old) }
+    ensures* fact { λ r. ⌜ (r ≡ answer_to k arena.old f) × (arena.new ≡ words_after k arena.old f) × Writes out.old at.old (added_to k arena.old f) out.new at.new ⌝ }
+    ensures* short { λ r. ⌜ at.new ≤ at.old + 1681 ⌝ }
 {
     let operation = f.operation;
     let id = TaskId(f.y);
@@ -130,77 +139,38 @@ pub fn dispatch(k: Kernel, known: bool, f: Frame, arena: &mut [u32]) -> Answer
         Operation::Status => call_status::internal::set_current_task_status(k, known, f.k),
         Operation::Block => call_status::internal::block_current_task(k, known),
         Operation::ReapOne => call_reap::internal::reap_one(k, known),
-        // None of these is asked for here.
-        Operation::AcquireWithin
-        | Operation::EventWaitWithin
-        | Operation::Load
-        | Operation::TicksToMs
-        | Operation::List
-        | Operation::CurrentId
-        | Operation::Result
-        | Operation::Word
-        | Operation::Init => answer::refused(NO_CALL, k),
-    }
-}
-
-// The operations that `tables` has alone, so that `turns` is not slower for them. What the line adds to its answer is
-// written into `out`, and `at` moves behind it.
-pub fn dispatch_tables(
-    k: Kernel,
-    f: Frame,
-    arena: &mut [u32],
-    out: &mut [u8],
-    at: &mut usize,
-) -> Answer
-    requires { OfTables f.operation × (at.old + 1681 ≤ length out.old) }
-    ensures value { (result ≡ answer_to k arena.old f) × (arena.new ≡ words_after k arena.old f) × Writes out.old at.old (added_to k arena.old f) out.new at.new }
-    ensures short { at.new ≤ at.old + 1681 }
-{
-    let operation = f.operation;
-    let id = TaskId(f.y);
-    let object = f.k as usize;
-    let ticks = f.y as u64;
-    match operation {
-        Operation::Unknown => answer::refused(NO_CALL, k),
-        Operation::AcquireWithin => call_acquire::acquire_within(k, object, ticks),
-        Operation::EventWaitWithin => call_event_wait::wait_within(k, object, ticks),
-        Operation::Load => load(k, id, out, at),
-        // Called from two places, which keeps its division out of the function that start and switch are taken into.
-        Operation::TicksToMs => {
-            if object < 32 {
-                ticks_to_ms(k, f.k, f.y)
+        // Called from two places or more, `list` and `other` stay functions of their own; taken into this one they would make each of the calls above slower. So would an answer of `other` without a name.
+        Operation::List => {
+            if object < Kernel::MAX_TASKS {
+                list(k, object, arena, out, at)
             } else {
-                ticks_to_ms(k, 32, f.y)
+                list(k, Kernel::MAX_TASKS, arena, out, at)
             }
         },
-        Operation::List => list(k, object, arena, out, at),
-        Operation::CurrentId => call_status::current_task_id(k),
-        Operation::Result => call_wake::set_syscall_result(k, id, signed(f.k)),
+        Operation::CurrentId => {
+            let answer = other(k, 0, f.k, f.y);
+            answer
+        },
+        Operation::Result => {
+            let answer = other(k, 1, f.k, f.y);
+            answer
+        },
         Operation::Word => {
             set_word(arena, f.y as usize, word_of(f.k));
             answer::accepted(Value::Nothing, k)
         },
         Operation::Init => init(k, f.y, arena),
-        // None of these is asked for here.
-        Operation::Add
-        | Operation::Start
-        | Operation::Tick
-        | Operation::Switch
-        | Operation::Exit
-        | Operation::Wait
-        | Operation::Reap
-        | Operation::Sleep
-        | Operation::Wake
-        | Operation::Lock
-        | Operation::Unlock
-        | Operation::TryLock
-        | Operation::Acquire
-        | Operation::TryAcquire
-        | Operation::Release
-        | Operation::EventWait
-        | Operation::Signal
-        | Operation::Status
-        | Operation::Block
-        | Operation::ReapOne => answer::refused(NO_CALL, k),
+        Operation::AcquireWithin => {
+            let answer = other(k, 2, f.k, f.y);
+            answer
+        },
+        Operation::EventWaitWithin => {
+            let answer = other(k, 3, f.k, f.y);
+            answer
+        },
+        Operation::TicksToMs => {
+            let answer = other(k, 4, f.k, f.y);
+            answer
+        },
     }
 }

@@ -1,8 +1,8 @@
 -- A line of the notation of `turns` or `tables`, and the frame that it writes (01, "Program `turns`"; README, "The operations").
-use Rattle.std.specs.Prelude.{ℕ, ◌+◌, ◌-◌, ◌*◌, ◌<◌, ◌≡◌, Bool, true, false, ◌&&◌, ◌||◌, not, List, [], ◌∷◌, eqb, leb, ltb, get_or, set, replicate}
+use Rattle.std.specs.Prelude.{ℕ, ◌+◌, ◌-◌, ◌*◌, Bool, ◌&&◌, ◌||◌, not, List, [], ◌∷◌, eqb, leb, ltb, get_or, set, replicate}
 use Rattle.base.specs.Choice.{if◌then◌else◌, every}
 use Rattle.line_frame.specs.declared.Operation.{Operation}
-use Rattle.line_frame.specs.declared.Operation.TheVariants.{Unknown, Add, Start, Tick, Switch, Exit, Wait, Reap, Sleep, Wake, Lock, Unlock, TryLock, Acquire, TryAcquire, Release, EventWait, Signal, Status, Block, ReapOne, AcquireWithin, EventWaitWithin, Load, TicksToMs, CurrentId, Result, Word, Init}
+use Rattle.line_frame.specs.declared.Operation.TheVariants.{Unknown, Add, Start, Tick, Switch, Exit, Wait, Reap, Sleep, Wake, Lock, Unlock, TryLock, Acquire, TryAcquire, Release, EventWait, Signal, Status, Block, ReapOne, AcquireWithin, EventWaitWithin, TicksToMs, CurrentId, Result, Word, Init}
 use Rattle.line_frame.specs.declared.Frame.{Frame}
 use Rattle.line_frame.specs.declared.Line.{Line}
 
@@ -40,33 +40,21 @@ is_hex l = every (eqb l.len 12 ∷ ltb (byte_at l 0) 256 ∷ ltb (byte_at l 1) 2
 
 -- ---- its operation and its operands
 
--- in the order of their numbers, from 00, which is none; so are 19 and 1a
+-- in the order of their numbers, from 00, which is none; so are 17, 19 and 1a
 abbrev pub operations : List Operation
-operations =
-    Unknown ∷ Add ∷ Start ∷ Tick ∷ Switch ∷ Exit ∷ Wait ∷ Reap ∷ Sleep ∷ Wake ∷ Lock ∷ Unlock ∷ TryLock ∷ Acquire
-    ∷ TryAcquire ∷ Release ∷ EventWait ∷ Signal ∷ Status ∷ Block ∷ ReapOne ∷ AcquireWithin ∷ EventWaitWithin ∷ Load
-    ∷ TicksToMs ∷ Unknown ∷ Unknown ∷ Operation.List ∷ CurrentId ∷ Result ∷ Word ∷ Init ∷ []
+operations = Unknown ∷ Add ∷ Start ∷ Tick ∷ Switch ∷ Exit ∷ Wait ∷ Reap ∷ Sleep ∷ Wake ∷ Lock ∷ Unlock ∷ TryLock ∷ Acquire ∷ TryAcquire ∷ Release ∷ EventWait ∷ Signal ∷ Status ∷ Block ∷ ReapOne ∷ AcquireWithin ∷ EventWaitWithin ∷ Unknown ∷ TicksToMs ∷ Unknown ∷ Unknown ∷ Operation.List ∷ CurrentId ∷ Result ∷ Word ∷ Init ∷ []
 
 -- `turns` has those up to 14
 unfoldable pub operation_of : Bool → ℕ → Operation
 operation_of tables n = if tables || leb n 0x14 then get_or operations n Unknown else Unknown
 
--- one that `turns` reads, and one past these, which `tables` reads alone; each may be none
-abbrev pub OfTurns : Operation → Type 0
-OfTurns o = (n : ℕ) × (o ≡ operation_of false n)
-
-abbrev pub OfTables : Operation → Type 0
-OfTables o = (n : ℕ) × (0x14 < n) × (o ≡ operation_of true n)
-
 -- add, the calls on objects and status; 15 and 16, with a limit; 18; list, result and word
 abbrev pub uses_k : ℕ → Bool
 uses_k operation = eqb operation 0x01 || (leb 0x0a operation && leb operation 0x12) || eqb operation 0x15 || eqb operation 0x16 || eqb operation 0x18 || eqb operation 0x1b || eqb operation 0x1d || eqb operation 0x1e
 
--- add, switch, and 06 to 09: wait, reap, sleep, wake; 15 to 18; 1d to 1f: result, word, fresh
+-- add, switch, and 06 to 09: wait, reap, sleep, wake; 15, 16 and 18; 1d to 1f: result, word, fresh
 abbrev pub uses_y : ℕ → Bool
-uses_y operation =
-    eqb operation 0x01 || eqb operation 0x04 || (leb 0x06 operation && leb operation 0x09)
-    || (leb 0x15 operation && leb operation 0x18) || (leb 0x1d operation && leb operation 0x1f)
+uses_y operation = eqb operation 0x01 || eqb operation 0x04 || (leb 0x06 operation && leb operation 0x09) || eqb operation 0x15 || eqb operation 0x16 || eqb operation 0x18 || (leb 0x1d operation && leb operation 0x1f)
 
 abbrev pub k_of : Line → ℕ
 k_of l = byte_at l 1

@@ -1,11 +1,10 @@
 // A line of the notation of `turns` or `tables`, and the frame that it writes: operation, k and y.
 #![tactic(auto)]
 
-ghost use Rattle.std.specs.Prelude.{◌≡◌, true, ◌+◌, ◌*◌, ◌<◌, ltb, get_or};
+ghost use Rattle.std.specs.Prelude.{◌≡◌, true, ◌+◌, ◌*◌, ◌<◌, get_or};
 ghost use Rattle.line_frame.specs.Frame.{empty_line, digit, byte_of, byte_at, is_hex, operations, operation_of, uses_k, uses_y, k_fits, y_fits, in_range, y_of, operands_fit, malformed, frame_of};
 
-// The operations in the order of their numbers: 0x01 to 0x14, which `turns` has, and 0x15 to 0x18 and 0x1b to 0x1f,
-// which `tables` has too.
+// The operations in the order of their numbers: 0x01 to 0x14, which `turns` has, and 0x15, 0x16, 0x18 and 0x1b to 0x1f, which `tables` has too.
 #[derive(Clone, Copy)]
 pub enum Operation {
     Unknown,
@@ -31,7 +30,6 @@ pub enum Operation {
     ReapOne,
     AcquireWithin,
     EventWaitWithin,
-    Load,
     TicksToMs,
     List,
     CurrentId,
@@ -125,7 +123,6 @@ fn numbered(n: u32) -> Operation
         0x14 => Operation::ReapOne,
         0x15 => Operation::AcquireWithin,
         0x16 => Operation::EventWaitWithin,
-        0x17 => Operation::Load,
         0x18 => Operation::TicksToMs,
         0x1b => Operation::List,
         0x1c => Operation::CurrentId,
@@ -164,7 +161,9 @@ fn uses_y(operation: u32) -> bool
     (operation == 0x01)
         | (operation == 0x04)
         | ((0x06 <= operation) & (operation <= 0x09))
-        | ((0x15 <= operation) & (operation <= 0x18))
+        | (operation == 0x15)
+        | (operation == 0x16)
+        | (operation == 0x18)
         | ((0x1d <= operation) & (operation <= 0x1f))
 }
 
@@ -266,13 +265,6 @@ impl Line {
         ensures { result ≡ byte_at self i }
     {
         byte_of(self.bytes[2 * i], self.bytes[2 * i + 1])
-    }
-
-    // Whether its operation's number is past those of `turns`, or it has none.
-    pub fn past_turns(self) -> bool
-        ensures { result ≡ ltb 0x14 (byte_at self 0) }
-    {
-        REAP_ONE < self.byte_at(0)
     }
 
     fn is_hex(self) -> bool

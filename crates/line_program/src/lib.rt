@@ -150,9 +150,9 @@ fn write_calls(tables: bool) -> bool {
     }
     if tables {
         let listed = written(
-            b"  15 acquire semaphore k   16 wait for event k, both for y ticks at most   17 load of id y
-  18 milliseconds from y * 2^k ticks   1b list, k records lent   1c current id   1d result k, a signed byte, of id y
-  1e no call: word y of the arena becomes 0, or for k 1 the paint   1f fresh, y hz
+            b"  15 acquire semaphore k   16 wait for event k, both for y ticks at most   18 milliseconds from y * 2^k ticks
+  1b list, k records lent   1c current id   1d result k, a signed byte, of id y   1f fresh, y hz
+  1e no call: word y of the arena becomes 0, or for k 1 the paint
 ",
         );
         if !listed {
@@ -184,9 +184,7 @@ as it is printed, the value is 0 and nothing is changed:
     written(
         b"  07 too: a limit of 0; hz 0   ff too: 18 with k above 20 (32); 1e with k above 1 or y above fff
   11 guard words of current's stack not painted   15 fewer records than tasks   17 milliseconds above 2^32 - 1
-  18 no tick since the start
-Behind its answer stand the records of a list, and the remainder of a load in 16 digits.
-The line after an answer is the whole table in decimal.
+The records of a list stand behind its answer. The line after an answer is the whole table in decimal.
 ",
     )
 }

@@ -14,7 +14,6 @@ use Rattle.base.proofs.Choices.{taken, left}
 use Rattle.line_text.specs.Text.{Writes}
 use Rattle.line_text.proofs.Writing.{nothing_written, written_then, same_text}
 use Rattle.kernel.specs.declared.scheduler.Kernel.{Kernel}
-use Rattle.line_frame.specs.declared.Frame.{Frame}
 use Rattle.line_frame.specs.declared.Line.{Line}
 use Rattle.line_frame.specs.Frame.{empty_line, lengthened, frame_of}
 use Rattle.kernel.specs.declared.scheduler.Answer.{Answer}
@@ -177,21 +176,3 @@ pub room_enough : (each bytes room i n : ℕ) → each * bytes ≤ room → i �
 room_enough each bytes room i n fits le l =
     let all : each * i ≤ each * bytes = mul-le-mul_left each le in
     omega (arith, all, fits, l)
-
--- ---- a line is answered, by `dispatch` or by `dispatch_tables`, on the arena and with room for what is added
-
-pub record Answered (k : Kernel) (f : Frame) (arena added arena' added' : List ℕ) (len : ℕ) (a : Answer) : Type 0 where
-  pub answer : a ≡ answer_to k arena f
-  pub words : arena' ≡ words_after k arena f
-  pub writes : Writes added 0 (added_to k arena f) added' len
-  pub short : len ≤ 1681
-
-pub by_tables : {k : Kernel} {f : Frame} {arena added arena' added' arena'' added'' : List ℕ} {len len' : ℕ} {a a' : Answer}
-    → ((a' ≡ answer_to k arena f) × (arena'' ≡ words_after k arena f) × Writes added 0 (added_to k arena f) added'' len') × (len' ≤ 1681)
-    → arena' ≡ arena'' → added' ≡ added'' → len ≡ len' → a ≡ a' → Answered k f arena added arena' added' len a
-by_tables p e e' e'' e''' = record { answer = e''' ∙ p.0.0; words = e ∙ p.0.1; writes = rw (e', e'') p.0.2; short = rw e'' p.1 }
-
-pub by_turns : {k : Kernel} {f : Frame} {arena added arena' added' arena'' : List ℕ} {len : ℕ} {a a' : Answer}
-    → (a' ≡ answer_to k arena f) × (arena'' ≡ words_after k arena f) × (added_to k arena f ≡ []) → arena' ≡ arena'' → added' ≡ added → len ≡ 0 → a ≡ a' → Answered k f arena added arena' added' len a
-by_turns {added = added} p e e' e'' e''' =
-    record { answer = e''' ∙ p.0; words = e ∙ p.1; writes = rw (e', e'') (same_text (sym p.2) (nothing_written added 0)); short = rw e'' (omega arith) }

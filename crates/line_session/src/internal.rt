@@ -48,11 +48,7 @@ fn end_line(
 {
     let f = line.frame(tables);
     let mut len: usize = 0;
-    let a = if tables & line.past_turns() {
-        line_dispatch::internal::dispatch_tables(k, f, arena, added, &mut len)
-    } else {
-        line_dispatch::internal::dispatch(k, *known, f, arena)
-    };
+    let a = line_dispatch::internal::dispatch(k, *known, f, arena, added, &mut len);
     *known = true;
     let kernel = a.kernel;
     *at = put_reply(tables, a, &added[..len], out, *at);

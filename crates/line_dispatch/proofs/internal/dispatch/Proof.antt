@@ -1,11 +1,10 @@
--- `dispatch` meets its contract: an arm for each operation of `turns`, by the contract of its call; no other is asked for.
+-- `dispatch` meets its contract: an arm for each operation, by the contract of its call.
+use Rattle.line_text.proofs.Writing.{nothing_written, same_text}
+use Rattle.line_dispatch.proofs.Listing.{sixteen}
 use Rattle.line_dispatch.proofs.Plain.{plain}
-use Rattle.line_dispatch.proofs.Apart.{not_of_turns}
-use mathlib.Core.Path.{refl}
-use mathlib.Core.List.{[], ◌∷◌}
+use native.Mathlib.Omega.{arith}
+use mathlib.Core.Path.{refl, ◌∙◌}
 use Rattle.base.specs.Choice.{if◌then◌else◌}
-use Rattle.base.specs.Below.{all_below}
-use Rattle.line_frame.specs.Frame.{operation_of}
 use Rattle.line_dispatch.specs.Dispatch.{answer_to, words_after, added_to}
 use borrow.Author.Rules.{rules}
 use Rattle.line_dispatch.proofs.internal.dispatch.Statement.{statement}
@@ -13,18 +12,52 @@ use Rattle.line_dispatch.proofs.internal.dispatch.Tie as tie
 
 returns : tie.Need-returns
 unfolding answer_to words_after added_to
-returns c = rw c.before.enum_told.given.1 (c.refused.ensures, refl, refl)
+returns c = rw c.before.enum_told.given.1 ((c.refused.ensures, refl, nothing_written _ _), omega arith)
 
 returns-2 : tie.Need-returns-2
 unfolding answer_to words_after added_to
-returns-2 c = rw c.before.before.before.before.before.before.enum-told2.given.1 (c.before.before.add-task.ensures.0, c.before.before.add-task.ensures.1, refl)
+returns-2 c = rw c.before.before.before.before.before.before.enum-told2.given.1 ((c.before.before.add-task.ensures.0, c.before.before.add-task.ensures.1, nothing_written _ _), omega arith)
 
 returns-9 : tie.Need-returns-9
 returns-9 c = plain _ _ _ c.before.before.enum-told9.given.1 refl (rw (← c.before.ms-to-ticks.ensures) c.current-task-sleep-ticks.ensures)
 
 returns-22 : tie.Need-returns-22
-unfolding operation_of if◌then◌else◌ all_below
-returns-22 c = absurd (not_of_turns (21 ∷ 22 ∷ 23 ∷ 24 ∷ 25 ∷ 26 ∷ 27 ∷ 28 ∷ 29 ∷ []) _ refl c.before.before.before.before.requires.1 c.before.match.keys22)
+unfolding answer_to words_after added_to
+returns-22 c = rw c.before.before.before.before.before.before.before.enum-told22.given.1 ((c.before.before.list.ensures.0.0, refl, c.before.before.list.ensures.0.1), c.before.before.list.ensures.1)
+
+returns-23 : tie.Need-returns-23
+unfolding answer_to words_after added_to
+returns-23 c =
+    let enough = sixteen _ _ _ c.before.before.before.before.before.before.if1.false in
+    rw c.before.before.before.before.before.before.before.enum-told22.given.1 ((c.before.before.list2.ensures.0.0 ∙ enough.0, refl, same_text enough.1 c.before.before.list2.ensures.0.1), c.before.before.list2.ensures.1)
+
+returns-24 : tie.Need-returns-24
+unfolding if◌then◌else◌
+returns-24 c = plain _ _ _ c.before.enum-told23.given.1 refl c.other.ensures
+
+returns-25 : tie.Need-returns-25
+unfolding if◌then◌else◌
+returns-25 c = plain _ _ _ c.before.enum-told24.given.1 refl c.other2.ensures
+
+returns-26 : tie.Need-returns-26
+unfolding answer_to words_after added_to
+returns-26 c = rw c.before.before.before.before.before.before.before.enum-told25.given.1 ((c.accepted.ensures, rw (← c.before.before.before.before.word_of.ensures) c.before.before.before.set_word.ensures, nothing_written _ _), omega arith)
+
+returns-27 : tie.Need-returns-27
+unfolding answer_to words_after added_to
+returns-27 c = rw c.before.before.before.before.enum-told26.given.1 ((c.before.before.init.ensures.0, c.before.before.init.ensures.1, nothing_written _ _), omega arith)
+
+returns-28 : tie.Need-returns-28
+unfolding if◌then◌else◌
+returns-28 c = plain _ _ _ c.before.enum-told27.given.1 refl c.other3.ensures
+
+returns-29 : tie.Need-returns-29
+unfolding if◌then◌else◌
+returns-29 c = plain _ _ _ c.before.enum-told28.given.1 refl c.other4.ensures
+
+returns-30 : tie.Need-returns-30
+unfolding if◌then◌else◌
+returns-30 c = plain _ _ _ c.before.enum-told29.given.1 refl c.other5.ensures
 
 pub dispatch-spec : {M : Type 1} → statement M
 dispatch-spec =
@@ -74,6 +107,25 @@ dispatch-spec =
     (λ c κs. search rules)
     (λ c. search rules)
     (λ c κs. search rules)
+    (λ c. search rules)
+    (λ c κs. search rules)
+    (λ c κs. search rules)
+    (λ c. search rules)
+    (λ c κs. search rules)
+    (λ c. search rules)
+    (λ c κs. search rules)
+    (λ c. search rules)
+    (λ c. search rules)
+    (λ c κs. search rules)
+    (λ c κs. search rules)
+    (λ c κs. search rules)
+    (λ c. search rules)
+    (λ c κs. search rules)
+    (λ c. search rules)
+    (λ c κs. search rules)
+    (λ c. search rules)
+    (λ c κs. search rules)
+    (λ c. search rules)
     (λ c κs. search rules)
     returns
     (λ c. search rules)
@@ -98,4 +150,18 @@ dispatch-spec =
     (λ c. plain _ _ _ c.before.enum-told19.given.1 refl c.set-current-task-status.ensures)
     (λ c. plain _ _ _ c.before.enum-told20.given.1 refl c.block-current-task.ensures)
     (λ c. plain _ _ _ c.before.enum-told21.given.1 refl c.reap-one.ensures)
-    returns-22)
+    (λ c. search rules)
+    (λ c. search rules)
+    returns-22
+    (λ c. search rules)
+    (λ c. search rules)
+    returns-23
+    returns-24
+    returns-25
+    (λ c. search rules)
+    returns-26
+    (λ c. search rules)
+    returns-27
+    returns-28
+    returns-29
+    returns-30)
