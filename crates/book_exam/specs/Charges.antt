@@ -1,5 +1,5 @@
 -- Charges (02, W-206) in kernels that no list from fresh gets to: what the definitions make of kernels given here, and what was worked out by hand.
-use Rattle.std.specs.Prelude.{ℕ, ◌-◌, ◌^◌, ◌≡◌, refl, Bool, true, false, List, [], ◌∷◌, ◌++◌, length, replicate}
+use Rattle.std.specs.Prelude.{ℕ, ◌-◌, ◌^◌, ◌≡◌, refl, true, false, List, [], ◌∷◌, ◌++◌, length, replicate}
 use Rattle.base.specs.Choice.{if◌then◌else◌, every}
 use Rattle.base.specs.Below.{all_below, any_below, count_below, sum_below, lowest_below}
 use Rattle.kernel.specs.declared.control.TaskState.TheVariants.{Terminated}

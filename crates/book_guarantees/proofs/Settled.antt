@@ -1,6 +1,6 @@
 -- Call by call, since the changes do not tell it: a signalled event has no queue, as one is signalled only where its queue is empty and nobody joins the queue of
 -- one that is; and no task has a limit before the start.
-use Prim.Native.Nat.{ℕ, zero, suc, ◌-◌}
+use Prim.Native.Nat.{ℕ, zero, suc}
 use native.Mathlib.Omega.{arith}
 use mathlib.Core.Path.{◌≡◌, refl, sym, ap, ◌∙◌}
 use mathlib.Core.Bool.{Bool, true, false, false≢true, not, ◌||◌, ◌&&◌}

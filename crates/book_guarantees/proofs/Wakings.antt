@@ -1,5 +1,5 @@
 -- What the book says of wake, release and signal, proved: by induction on how many wait, then read off the step.
-use Prim.Native.Nat.{ℕ, zero, suc, ◌+◌, ◌-◌, ◌≤◌, ◌<◌}
+use Prim.Native.Nat.{ℕ, zero, suc, ◌+◌, ◌≤◌, ◌<◌}
 use native.Mathlib.Omega.{arith}
 use native.Mathlib.Numerals.{add-one}
 use mathlib.Core.Path.{◌≡◌, refl, sym, ap, subst, ◌∙◌}
@@ -26,7 +26,7 @@ use Rattle.kernel.specs.declared.scheduler.Answer.{Answer}
 use Rattle.kernel.specs.Update.{with_tasks}
 use Rattle.kernel.specs.Control.{state_number, blank_slot, entered}
 use Rattle.kernel.specs.WaitQueue.{place, head, popped}
-use Rattle.kernel.specs.Kernel.{slot, at, current_task_id, slot_of, is_present, semaphore, event, fresh_kernel}
+use Rattle.kernel.specs.Kernel.{slot, current_task_id, slot_of, is_present, semaphore, event, fresh_kernel}
 use Rattle.kernel.specs.Scheduler
 use Rattle.kernel.specs.Scheduler.{wakes, drop_heads, wake_one}
 use Rattle.kernel.specs.Semaphore
@@ -42,7 +42,7 @@ use Rattle.kernel.proofs.MadeOf.{heads}
 use Rattle.kernel.proofs.Whole.{is_whole}
 use Rattle.kernel.proofs.Reached.{reached_by, reached_whole}
 use Rattle.book_guarantees.proofs.Settled.{all_clear}
-use Rattle.book_guarantees.specs.Wakings.{OneReady, OneWoken, NoneWoken, ReleaseOrSignal, releasing, signalling, Wakings, WakeGuarantee}
+use Rattle.book_guarantees.specs.Wakings.{OneReady, OneWoken, NoneWoken, ReleaseOrSignal, releasing, signalling, WakeGuarantee}
 
 -- ---- a wake
 
