@@ -3,7 +3,7 @@ the model and, where a call is in the compared domain, against the Rust; of othe
 a release or signal that drops a head which is not Blocked it has to say W-201, at a wait with a limit W-202, at a lock after which a
 mutex has a queue W-205; from there on the list is held to the model alone. So are the lists of `late` and of `odd`, since no list brings the
 Rust to that tick or to those kernels. At milliseconds from ticks it has to say W-204; the call alters nothing, and the Rust plays
-the list without it; likewise at load, where it has to say W-207. The tables of tests/cases/README.md have to name these cases, in this order.
+the list without it. The tables of tests/cases/README.md have to name these cases, in this order.
 
   cases.py [DIR]    with DIR, also writes each list and what is printed for it: DIR/NAME.in and DIR/NAME.out for `turns`,
                     DIR/tables/NAME.in and DIR/tables/NAME.out for `tables`, DIR/late and DIR/odd likewise
@@ -51,16 +51,14 @@ START, TICK, EXIT, BLOCK, REAP_ONE, CURRENT_ID = (line(op) for op in (0x02, 0x03
 WAIT, REAP, SLEEP, WAKE = ((lambda y, op=op: line(op, 0, y)) for op in (0x06, 0x07, 0x08, 0x09))
 LOCK, UNLOCK, TRY_LOCK, ACQUIRE, TRY_ACQUIRE, RELEASE, EVENT_WAIT, SIGNAL = ((lambda k, op=op: line(op, k)) for op in range(0x0a, 0x12))
 ACQUIRE_WITHIN, WAIT_WITHIN = ((lambda k, ticks, op=op: line(op, k, ticks)) for op in (0x15, 0x16))
-def load(id): return line(0x17, 0, id)
 def milliseconds(y, k=0): return line(0x18, k, y)
 def status(k): return line(0x12, k)
 def result(id, k): return line(0x1d, k, id)
 def fresh(hz): return line(0x1f, 0, hz)
 
 
-# Answers: accepted, with what list appends; of load, with the share and the remainder; refused.
+# Answers: accepted, with what list appends; refused.
 def ok(value, current, listed=""): return f"00{value:08x}{current:02x}{listed and ' ' + listed}"
-def part(share, remainder, current): return ok(share, current, f"{remainder:016x}")
 def no(number, current): return f"{number:02x}00000000{current:02x}"
 NONE = 0xffffffff
 
@@ -413,19 +411,19 @@ turns("no-call", "ff: any other length or byte, an unknown operation, an unused 
 
 turns("no-call-of-tables", "The operations that `tables` alone has are ff (04, first paragraph)",
       *[(call, no(255, 0)) for call in (records(1), CURRENT_ID, result(0, 1), word(0, 0), fresh(1000), ACQUIRE_WITHIN(0, 5), WAIT_WITHIN(0, 5),
-                                        milliseconds(0), milliseconds(5), milliseconds(NONE, 1), load(0), load(1), load(NONE))],
+                                        milliseconds(0), milliseconds(5), milliseconds(NONE, 1))],
       *added(128), (START, ok(1, 1)),
       *[(call, no(255, 1)) for call in (records(2), CURRENT_ID, result(1, 255), word(2048, 0), fresh(1), *[
           line(op, k, y) for op in (0x15, 0x16) for k, y in ((0, 5), (0, 0), (4, 0), (3, NONE))],
-          milliseconds(0), milliseconds(5), milliseconds(1, 32), milliseconds(0, 33), milliseconds(NONE, 255), load(1), load(2), line(0x17, 1, 1))],
-      (TICK, ok(0, 1)), (load(1), no(255, 1)), (switch(0), ok(1, 1)))
+          milliseconds(0), milliseconds(5), milliseconds(1, 32), milliseconds(0, 33), milliseconds(NONE, 255))],
+      (TICK, ok(0, 1)), (switch(0), ok(1, 1)))
 
 # The notation of `tables`
 
 tables("example", "Document 04's example as far as its operations are there; the others are ff (04, lines)",
        ("018020000400", "000000000100"), ("1c0000000000", "020000000000"), ("020000000000", "000000000101"),
        ("030000000000", "000000000001"),
-       ("170000000001", "00000003e801 0000000000000000"), ("190200000000", no(255, 1)), ("150000000005", "000000000001"),
+       *[(call, no(255, 1)) for call in ("170000000001", "190200000000")], ("150000000005", "000000000001"),
        *[(call, no(255, 1)) for call in ("1a0200000000", "1a0300000000")])
 
 tables("table-line", "Document 04's table, the first nine segments as printed there (04, the table line)",
@@ -450,7 +448,7 @@ tables("no-call", "ff: operands out of range or unused, operations that are not 
        *[(call, no(255, 0), FRESH) for call in (
            "1b0000000001", "1b0100000001", "1c0100000000", "1c0000000001", "1e0200000000", "1eff00000000", "1e0000001000", "1e01ffffffff",
            "1f0100000000", "1f0100000001", "182100000000", "182100000001", "18ff00000000", "18ffffffffff",
-           "170100000000", "17ff00000001", "1701ffffffff", *[line(op) for op in (0x19, 0x1a)], "190100000000", "1a0100000000", "200000000000", "800000000000",
+           *[line(op) for op in (0x17, 0x19, 0x1a)], "170000000001", "190100000000", "1a0100000000", "200000000000", "800000000000",
            "ff0000000000", "000000000000", "030000000001", "", "1b01", "1c000000000", "1c00000000000", "1B0100000000", "1c0000000000 ")],
        (START, ok(0, 0)), ("1e0200000000", no(255, 0), table(["0,0,1,255,0,1,1,0,-,0,8192,8192,0"], "0,1,0,1,1")),
        (records(1), ok(1, 0, "0,1,255,0,8192")))
@@ -1052,97 +1050,6 @@ tables("charges-of-fifteen",
          for at, retired in ((1, 57), (3, 60), (5, 65), (7, 72), (9, 81), (11, 92), (13, 105), (15, 120))],
        (REAP_ONE, ok(NONE, 0), table([idle(RUNNING, left=False)], "120,1,0,1,16", retired=120)))
 
-# W-207: load per thousand. Beside each answer 1000 * charge = share * ticks + remainder.
-
-ONE_TICK = table([UNTOUCHED, task(1, RUNNING, left=False, rest=4)], "1,1,1,2,2", charges="0,1")
-tables("load-of-one-alone",
-       "Alone with all ticks since the start: 1000 and 0; idle, with none of them, 0 and 0; nothing is altered (02, W-207; 05, 46, 47)",
-       *added(128), (START, ok(1, 1)), (TICK, ok(0, 1), ONE_TICK),
-       (load(1), part(1000, 0, 1), ONE_TICK),          # 1000 * 1 = 1000 * 1 + 0
-       (load(0), part(0, 0, 1), ONE_TICK),             # 1000 * 0 = 0 * 1 + 0
-       *[(TICK, ok(0, 1))] * 3, (TICK, ok(1, 1)), (switch(0), ok(1, 1)), (TICK, ok(0, 1)),
-       (load(1), part(1000, 0, 1)),                    # 1000 * 6 = 1000 * 6 + 0
-       (load(0), part(0, 0, 1), table([UNTOUCHED, task(1, RUNNING, rest=4)], "6,1,1,2,2", charges="0,6")))
-
-tables("load-in-thirds",
-       "Three with a tick each: 333 and 1 each, together 999 and a remainder of 3, the ticks; then at four to seven ticks (02, W-207)",
-       *added(128, 128, 128), (START, ok(1, 1)), (TICK, ok(0, 1)), (switch(0), ok(2, 2)), (TICK, ok(0, 2)), (switch(1), ok(3, 3)), (TICK, ok(0, 3)),
-       *[(load(id), part(333, 1, 3)) for id in (1, 2, 3)],                                 # 1000 = 333 * 3 + 1
-       (load(0), part(0, 0, 3), table([UNTOUCHED, task(1, READY, rest=4), task(2, READY, rest=4), task(3, RUNNING, left=False, rest=4)], "3,1,3,4,4",
-                                      charges="0,1,1,1")),
-       (TICK, ok(0, 3)), (load(1), part(250, 0, 3)), (load(3), part(500, 0, 3)),           # 1000 = 250 * 4, 2000 = 500 * 4
-       (TICK, ok(0, 3)), (load(2), part(200, 0, 3)), (load(3), part(600, 0, 3)),           # 1000 = 200 * 5, 3000 = 600 * 5
-       (TICK, ok(0, 3)), (load(1), part(166, 4, 3)), (load(3), part(666, 4, 3)),           # 1000 = 166 * 6 + 4, 4000 = 666 * 6 + 4
-       (TICK, ok(1, 3)), (load(2), part(142, 6, 3)), (load(3), part(714, 2, 3)),           # 1000 = 142 * 7 + 6, 5000 = 714 * 7 + 2
-       (load(0), part(0, 0, 3)))
-
-TWO_BEFORE = table([UNTOUCHED, task(1, READY, left=False)], "2,0,0,2,2")
-NO_TICK_YET = table([UNTOUCHED, task(1, RUNNING, left=False)], "2,1,1,2,2")
-tables("load-refused",
-       "8 before 24; 24 and not 2 before the start, ticks before it do not count, and 24 after it up to its first tick (02, W-207; 05, 45)",
-       (load(0), no(24, 0), FRESH), *[(load(id), no(8, 0), FRESH) for id in (1, NONE)], *added(128), (load(1), no(24, 0)), (load(2), no(8, 0)),
-       *[(TICK, ok(0, 0))] * 2, *[(load(id), no(24, 0), TWO_BEFORE) for id in (0, 1)], *[(load(id), no(8, 0), TWO_BEFORE) for id in (2, NONE)],
-       (START, ok(1, 1)), *[(load(id), no(24, 1), NO_TICK_YET) for id in (1, 0)], *[(load(id), no(8, 1), NO_TICK_YET) for id in (2, NONE)],
-       (TICK, ok(0, 1)),
-       (load(1), part(1000, 0, 1)),                    # of one tick, not of three
-       (load(0), part(0, 0, 1)),
-       *[(load(id), no(8, 1), table([UNTOUCHED, task(1, RUNNING, left=False, rest=4)], "3,1,1,2,2", charges="0,1")) for id in (2, NONE)])
-
-tables("load-in-any-state",
-       "1 Blocked with a limit, 2 asleep, 3 suspended, 4 running, then ended, then blocked, a tick each: 250 each; states, limit and queue stay (02, W-207; 05, 47)",
-       *added(*[128] * 4), (START, ok(1, 1)), (TICK, ok(0, 1)), (ACQUIRE_WITHIN(0, 50), ok(0, 1)), (load(1), part(1000, 0, 1)), (switch(0), ok(2, 2)),
-       (TICK, ok(0, 2)), (SLEEP(90), ok(0, 2)), (load(2), part(500, 0, 2)), (switch(1), ok(3, 3)), (TICK, ok(0, 3)), (status(4), ok(0, 3)),
-       (load(3), part(333, 1, 3)), (switch(2), ok(4, 4)), (TICK, ok(0, 4)),
-       *[(load(id), part(250, 0, 4) if id else part(0, 0, 4),                              # 1000 = 250 * 4
-          table([UNTOUCHED, task(1, BLOCKED, rest=4), task(2, SLEEPING, wake=92, rest=4), task(3, SUSPENDED, rest=4),
-                 task(4, RUNNING, left=False, rest=4)], "4,1,4,5,5", semaphores=objects(o0="0,[1]"), charges="0,1,1,1,1", limits={1: "s,0,51,0"}))
-         for id in range(5)],
-       (EXIT, ok(0, 4)), (load(4), part(250, 0, 4)),
-       (BLOCK, ok(0, 4)), (load(4), part(250, 0, 4),
-        table([UNTOUCHED, task(1, BLOCKED, rest=4), task(2, SLEEPING, wake=92, rest=4), task(3, SUSPENDED, rest=4),
-               task(4, BLOCKED, left=False, rest=0)], "4,1,4,5,5", semaphores=objects(o0="0,[1]"), charges="0,1,1,1,1", limits={1: "s,0,51,0"})))
-
-tables("load-of-a-task-that-has-ended",
-       "Ended, it has its load; still current, its share rises on; then it falls as another has ticks; reaped, its id is 8 (02, W-207, W-206)",
-       *added(128, 128), (START, ok(1, 1)), (TICK, ok(0, 1)), (switch(0), ok(2, 2)), (TICK, ok(0, 2)), (EXIT, ok(0, 2)), (load(2), part(500, 0, 2)),
-       (TICK, ok(1, 2)), (load(2), part(666, 2, 2)), (load(1), part(333, 1, 2)),           # 2000 = 666 * 3 + 2, 1000 = 333 * 3 + 1
-       (switch(1), ok(1, 1)), (TICK, ok(0, 1)), (load(2), part(500, 0, 1)), (TICK, ok(0, 1)),
-       (load(2), part(400, 0, 1)), (load(1), part(600, 0, 1)), (REAP(2), ok(0x2040, 1)),   # 2000 = 400 * 5, 3000 = 600 * 5
-       *[(load(id), answer, table([UNTOUCHED, task(1, RUNNING, rest=2)], "5,1,1,2,3", charges="0,3", retired=2))
-         for id, answer in ((2, no(8, 1)), (1, part(600, 0, 1)))])
-
-# 1 has four ticks and is reaped, 2 has two; 3 gets the slot of 1.
-tables("load-after-a-reap",
-       "The retired sum counts in the ticks: a reap leaves the others' loads, 333 together; a new task begins with 0 (02, W-207, W-206)",
-       *added(128, 128), (START, ok(1, 1)), *[(TICK, ok(0, 1))] * 4, (EXIT, ok(0, 1)), (switch(0), ok(2, 2)), *[(TICK, ok(0, 2))] * 2,
-       (load(2), part(333, 2, 2)), (REAP(1), ok(0x2000, 2)),
-       (load(2), part(333, 2, 2), table([UNTOUCHED, task(2, RUNNING, left=False, rest=3)], "6,1,2,2,3", charges="0,0,2", retired=4)),   # 2000 = 333 * 6 + 2
-       (load(0), part(0, 0, 2)), (load(1), no(8, 2)), (load(3), no(8, 2)),
-       (add(0, 128), ok(3, 2)), (load(3), part(0, 0, 2)), (load(1), no(8, 2)), (load(2), part(333, 2, 2)), (switch(1), ok(1, 1)), (TICK, ok(0, 1)),
-       (load(3), part(142, 6, 1)), (load(2), part(285, 5, 1)), (load(0), part(0, 0, 1)),   # 1000 = 142 * 7 + 6, 2000 = 285 * 7 + 5
-       (load(1), no(8, 1),
-        table([UNTOUCHED, task(1, RUNNING, left=False, id=3, rest=4), task(2, READY, rest=3)], "7,1,1,3,4", charges="0,1,2", retired=4)))
-
-tables("load-where-all-ticks-are-retired",
-       "No task has a tick, the retired sum has two: 0 and 0, and not 24; then idle has one of three; a fresh kernel is 24 again (02, W-207)",
-       *added(128), (START, ok(1, 1)), *[(TICK, ok(0, 1))] * 2, (EXIT, ok(0, 1)), (switch(0), ok(0, 0)), (load(0), part(0, 0, 0)),
-       (REAP_ONE, ok(0x2000, 0)), (load(0), part(0, 0, 0), table([idle(RUNNING, left=False)], "2,1,0,1,2", retired=2)), (load(1), no(8, 0)),
-       (TICK, ok(1, 0)), (load(0), part(333, 1, 0), table([idle(RUNNING, left=False)], "3,1,0,1,2", charges="1", retired=2)),           # 1000 = 333 * 3 + 1
-       (fresh(0), no(7, 0)), (load(0), part(333, 1, 0)), (fresh(1000), ok(0, 0), FRESH), (load(0), no(24, 0)), (load(1), no(8, 0)),
-       (START, ok(0, 0)), (load(0), no(24, 0)), (TICK, ok(1, 0)), (load(0), part(1000, 0, 0)))
-
-# Of 120 ticks n has n, and 1000 * 3 = 25 * 120. Together they are 995 and five times 40 + 80, which is 5 * 120.
-LOADS_OF_120 = [(8, 40), (16, 80), (25, 0), (33, 40), (41, 80), (50, 0), (58, 40), (66, 80), (75, 0), (83, 40), (91, 80), (100, 0), (108, 40),
-                (116, 80), (125, 0)]
-tables("loads-of-fifteen",
-       "1 to 15 have as many ticks as their numbers: shares of 995 and remainders of 5 ticks; reaps of some leave the loads of the others (02, W-207)",
-       *added(*[128] * 15), (START, ok(1, 1)),
-       *[pair for at in range(1, 16) for pair in ((EXIT, ok(0, at)), *[(TICK, ok(1, at))] * at, (switch(at - 1), ok(*[(at + 1) % 16] * 2)))],
-       *[(load(id), part(*LOADS_OF_120[id - 1], 0), fifteen_ended((), 0)) for id in range(1, 16)], (load(0), part(0, 0, 0)), (load(16), no(8, 0)),
-       (REAP(15), ok(0x2380, 0)), (REAP(4), ok(0x20c0, 0)), (REAP_ONE, ok(0x2000, 0)),
-       *[(load(id), no(8, 0) if id in (1, 4, 15) else part(*LOADS_OF_120[id - 1], 0), fifteen_ended((1, 4, 15), 20)) for id in range(1, 16)],
-       (load(0), part(0, 0, 0)))
-
 # Current id and result
 
 tables("current-id", "2 before the start; then the id of the task in slot current, which is not the slot (01, state calls; 04)",
@@ -1289,20 +1196,8 @@ late("charges-at-the-last-tick",
       table([UNTOUCHED, task(1, READY, left=False, id=3), task(2, RUNNING, left=False, rest=3)], "18446744073709551615,1,2,3,4",
             charges="0,0,7", retired=5)))
 
-late("loads-at-the-last-tick",
-     "Of the twelve ticks that are left 1 has five, 2 seven: these count, not tick_count; 24 before them; a tick that is 18 alters no load (02, W-207)",
-     *added(128, 128), (load(1), no(24, 0)), (START, ok(1, 1)), (load(1), no(24, 1)), *[(TICK, ok(0, 1))] * 4, (TICK, ok(1, 1)), (load(1), part(1000, 0, 1)),
-     (EXIT, ok(0, 1)), (switch(0), ok(2, 2)), *[(TICK, ok(0, 2))] * 4, (TICK, ok(1, 2)), (load(1), part(500, 0, 2)), (TICK, ok(0, 2)),
-     *[call for answer in (ok(0, 2), no(18, 2))
-       for call in ((TICK, answer), (load(1), part(416, 8, 2)), (load(2), part(583, 4, 2)))],     # 5000 = 416 * 12 + 8, 7000 = 583 * 12 + 4
-     (REAP(1), ok(0x2000, 2)), (load(1), no(8, 2)),
-     (load(2), part(583, 4, 2), table([UNTOUCHED, task(2, RUNNING, left=False, rest=3)], "18446744073709551615,1,2,2,3", charges="0,0,7", retired=5)))
-
 
 # Kernels that no list comes to
-
-def given(name): return fresh(1 + [odd.name for odd in model.ODD].index(name))
-
 
 # By hand, for each of model.CHARGED, the charges and the retired sum added up, and whether that is at most tick_count. In 64 bits the sums from
 # 2^64 on would wrap: 2^64 to 0, 17 * (2^64 - 1) to 2^64 - 17, 2^64 + 5 to 5.
@@ -1342,63 +1237,8 @@ odd("retired-sum-of-64-bits",
     (result(0, 0), ok(0, 0)), (CURRENT_ID, ok(0, 0)))
 
 
-# Of idle, for those of model.CHARGED that are whole: 1 of 10; 1 of 17, 1000 = 58 * 17 + 14; all 2^64 - 1; c = 2^60 - 1 of 16 * c + 15 = 2^64 - 1,
-# 1000 * c = 62 * (16 * c + 15) + 8 * c - 930; or nothing. The first has no ticks, and the others without idle's are 0.
-LOADS = {1: None, 2: (100, 0), 5: (0, 0), 7: (0, 0), 11: (58, 14), 13: (1000, 0), 14: (0, 0), 17: (62, 8 * (2**60 - 1) - 930), 21: (0, 0), 22: (0, 0)}
-
-
-def loads_at(hz, whole):
-    """The n-th kernel, not started."""
-    if not whole:
-        return [(fresh(hz), ok(0, 0)), (load(0), no(1, 0)), (load(1), no(1, 0))]
-    return [(fresh(hz), ok(0, 0)), (load(0), no(24, 0) if LOADS[hz] is None else part(*LOADS[hz], 0)), (load(1), no(8, 0))]
-
-
-odd("load-by-the-sum",
-    "1, before 8, where all charges and the retired sum pass tick_count; else, not started, by that sum, empty slots' too (02, W-207; 05, 45, 46)",
-    *[call for hz, (_, whole) in enumerate(SUMS, 1) for call in loads_at(hz, whole)])
-
-odd("load-with-a-charge-in-an-empty-slot",
-    "Slots 1 and 2 are empty and have 3 and 4, the retired sum has 2: idle has one tick of ten; an add takes the 3 out, another the 4 (05, 41, 46)",
-    (fresh(21), ok(0, 0)), (load(0), part(0, 0, 0)), (START, ok(0, 0)), (TICK, ok(1, 0)),
-    (load(0), part(100, 0, 0), table(["0,0,1,255,0,1,1,0,-,0,8192,8192,0"], "11,1,0,1,1", charges="1,3,4", retired=2)),   # 1000 = 100 * 10
-    (load(1), no(8, 0)), (add(0, 128), ok(1, 0)), (load(0), part(142, 6, 0)), (load(1), part(0, 0, 0)),     # 1000 = 142 * 7 + 6
-    (add(1, 128), ok(2, 0)), (load(0), part(333, 1, 0)), (load(2), part(0, 0, 0)))                          # 1000 = 333 * 3 + 1
-
-# c is 2^60 - 1. With idle's, m slots have it, and the retired sum is 15: of m * c + 15 ticks idle has c. Where 1000 = q * m + r and r is not 0,
-# 1000 * c = q * (m * c + 15) + r * c - 15 * q; where r is 0, one share less: 1000 * c = (q - 1) * (m * c + 15) + m * c + 15 - 15 * q.
-CHARGE = 2**60 - 1
-OF_SIXTEEN = [(16, 62, 8 * CHARGE - 930), (15, 66, 10 * CHARGE - 990), (14, 71, 6 * CHARGE - 1065), (13, 76, 12 * CHARGE - 1140),
-              (12, 83, 4 * CHARGE - 1245), (11, 90, 10 * CHARGE - 1350), (10, 99, 10 * CHARGE - 1485), (9, 111, CHARGE - 1665),
-              (8, 124, 8 * CHARGE - 1860), (7, 142, 6 * CHARGE - 2130), (6, 166, 4 * CHARGE - 2490), (5, 199, 5 * CHARGE - 2985),
-              (4, 249, 4 * CHARGE - 3735), (3, 333, CHARGE - 4995), (2, 499, 2 * CHARGE - 7485), (1, 999, CHARGE - 14985)]
-odd("load-past-64-bits",
-    "Sixteen slots have 2^60 - 1 each, with 15 retired 2^64 - 1 ticks: 1000 times a charge has 70 bits; each add takes one out (02, W-207; 05, 47)",
-    (fresh(17), ok(0, 0)),
-    *[call for m, share, remainder in OF_SIXTEEN
-      for call in (*[(add(15 - m, 128), ok(16 - m, 0)), (load(16 - m), part(0, 0, 0))][:2 * (m < 16)], (load(0), part(share, remainder, 0)))],
-    (load(15), part(0, 0, 0)), (load(16), no(8, 0)))
-
-# Of 2^64 - 1 ticks: all but one; 2^63, and 1000 * 2^63 = 500 * 2^64; 18,364,758,544,493,064,720, by long division; one.
-odd("load-of-charges-past-2-to-the-63",
-    "Of 2^64 - 1 ticks idle has all, all but one, 2^63, 0xfedcba9876543210 and one; no product, sum or remainder wraps (02, W-207)",
-    (fresh(13), ok(0, 0)), (load(0), part(1000, 0, 0)),
-    (given("loaded 1"), ok(0, 0)), (load(0), part(999, 2**64 - 1001, 0)),           # 1000 * (t - 1) = 999 * t + t - 1000
-    (given("loaded 2"), ok(0, 0)), (load(0), part(500, 500, 0)),                    # 500 * (t + 1) = 500 * t + 500
-    (given("loaded 3"), ok(0, 0)), (load(0), part(995, 10248191152060863075, 0)),
-    (given("loaded 4"), ok(0, 0)), (load(0), part(0, 1000, 0)), (START, ok(0, 0)), (TICK, no(18, 0)), (load(0), part(0, 1000, 0)), (load(1), no(8, 0)))
-
-# At first 2^64 - 12 ticks, all retired, and tick_count is 2^64 - 10: nine ticks are left.
-odd("load-beside-a-retired-sum-of-64-bits",
-    "The retired sum is 2^64 - 12: 1 has two ticks, 0 and 2000 of 2^64 - 10; it is reaped, idle has seven, 0 and 7000 of 2^64 - 3 (02, W-207)",
-    (fresh(22), ok(0, 0)), (load(0), part(0, 0, 0)), (add(0, 128), ok(1, 0)), (load(1), part(0, 0, 0)), (START, ok(1, 1)),
-    (TICK, ok(0, 1)), (load(1), part(0, 1000, 1)), (TICK, ok(0, 1)), (load(1), part(0, 2000, 1)), (EXIT, ok(0, 1)), (switch(0), ok(0, 0)),
-    (REAP(1), ok(0x2000, 0)), (load(1), no(8, 0)), (load(0), part(0, 0, 0)),
-    *[call for n in range(1, 8) for call in ((TICK, ok(1, 0)), (load(0), part(0, 1000 * n, 0)))], (TICK, no(18, 0)),
-    (load(0), part(0, 7000, 0), table([idle(RUNNING, left=False)], "18446744073709551615,1,0,1,2", charges="7", retired=18446744073709551606)))
-
-
 # The kernels of crates/book_exam/specs/Odd.antt, by their names. Of their stacks idle's alone is painted, so only idle is switched from.
+def given(name): return fresh(1 + [odd.name for odd in model.ODD].index(name))
 
 
 def five(state, slot=1, **more): return task(slot, state, left=False, id=5, priority=128 if slot == 1 else 100, **more)
@@ -1437,7 +1277,7 @@ odd("owned-count-of-5",
     *[call for raised, after in ((LOCK(0), four_owned(5, m0="1,5,-,[]")), (TRY_LOCK(0), four_owned(5, m0="1,5,-,[]")),
                                  (UNLOCK(3), four_owned(3, 5, READY, m3="1,7,7,[]")))
       for call in ((given("four-owned"), ok(0, 1), four_owned()), (CURRENT_ID, ok(5, 1)), (raised, ok(1, 1), after),
-                   *[(call, no(1, 1), after) for call in (CURRENT_ID, records(3), result(5, 0), milliseconds(0), load(5), load(6))])])
+                   *[(call, no(1, 1), after) for call in (CURRENT_ID, records(3), result(5, 0), milliseconds(0))])])
 
 
 def sliced(ticks, full, rest):
@@ -1515,15 +1355,6 @@ odd("id-of-idle-in-another-slot",
     (result(0, 9), ok(0, 1), table([UNTOUCHED[:-1] + "9", task(1, BLOCKED, left=False, id=0)], "0,1,1,2,9")),
     (EXIT, ok(0, 1), table([UNTOUCHED[:-1] + "9", task(1, TERMINATED, left=False, id=0, rest=0)], "0,1,1,2,9")),
     (REAP(0), no(9, 1)), (REAP_ONE, ok(NONE, 1)))
-
-# In the first slots 1 and 2 hold id 5 and slot 2 is current; in the second slot 1 is, and has ended; in the third slot 1 holds id 0 and is current; in
-# the fourth id 5 is left in slot 1, which is empty, and slot 2 holds it. One tick each, for current.
-odd("load-of-an-id-in-two-slots",
-    "Load means the lower slot: 0 where the higher one has the tick, 1000 where the lower has; of 0 slot 0 (05, 45)",
-    (given("current-twice"), ok(0, 2)), (load(5), no(24, 2)), (load(6), no(8, 2)), (TICK, ok(0, 2)), (load(5), part(0, 0, 2)), (load(7), part(0, 0, 2)),
-    (load(6), no(8, 2)), (given("ended-twice 1"), ok(0, 1)), (TICK, ok(1, 1)), (load(5), part(1000, 0, 1)), (load(7), part(0, 0, 1)),
-    (given("idle-twice"), ok(0, 1)), (TICK, ok(0, 1)), (load(0), part(0, 0, 1)), (load(1), no(8, 1)),
-    (given("empty-slot"), ok(0, 3)), (TICK, ok(0, 3)), (load(5), part(0, 0, 3)), (load(7), part(1000, 0, 3)), (load(0), part(0, 0, 3)))
 
 # Behind the ids of each queue stands 7, the id of current. 5 waits at mutex 1, of 7, and at semaphore 1 with a limit.
 def filled(first=BLOCKED, second=RUNNING, ticks=0, owned=(1, 1), rest=5, limit="s,1,1,0", lent={}, m0="1,5,-,[]", m1="1,7,-,[5 6]", s0="0,[8 5 6]",
@@ -1632,12 +1463,10 @@ def check_by_rust(program, name, calls):
             said, want = replayed(asked, call), request
         elif program == "tables" and call[:2] == "18" and answer[:2] != "ff":
             said, want = replayed(asked, call), "W-204"
-        elif program == "tables" and call[:2] == "17" and answer[:2] != "ff":
-            said, want = replayed(asked, call), "W-207"
         elif in_domain(call, answer):
             asked.append(call)
             continue
-        elif program == "tables" or call[:2] not in ("15", "16", "17", "18", "1b", "1c", "1d", "1e", "1f"):     # of `tables` alone
+        elif program == "tables" or call[:2] not in ("15", "16", "18", "1b", "1c", "1d", "1e", "1f"):     # of `tables` alone
             said, want = replayed(asked, call), answer[:2]
         else:
             continue

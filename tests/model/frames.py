@@ -2,14 +2,14 @@
 """Random lists for `turns` or `tables` that are to meet every refusal that a list from fresh can meet there, with malformed lines; lists
 in which release or signal drops up to eight heads; lists with chains of one to four links from waiter to owner and rings of two to
 four; and for `tables` lists in which limits end: out of queues of up to eight by their own ticks, and in every other way; lists with
-the milliseconds of ticks, at many rates; lists in which tasks with charges are reaped and others get their slots; and lists with loads.
+the milliseconds of ticks, at many rates; and lists in which tasks with charges are reaped and others get their slots.
 
   frames.py SEED LINES MALFORMED LISTS turns|tables PROGRAM [ARG..]
         LISTS lists of LINES lines, from SEED on, MALFORMED of them malformed (0.03 is 3 in 100), and ten times as many of
         each other kind; runs PROGRAM on each and compares with model.py, byte for byte
   frames.py late SEED LISTS PROGRAM [ARG..]
-        LISTS lists with limits and sleeps in the last ticks before 2^64 - 1, and as many with charges and with loads, for a `tables`
-        whose fresh kernel begins at model.LATE (tests/differential/unproved.py makes it)"""
+        LISTS lists with limits and sleeps in the last ticks before 2^64 - 1, and as many with charges, for a `tables` whose fresh
+        kernel begins at model.LATE (tests/differential/unproved.py makes it)"""
 import random
 import sys
 
@@ -54,7 +54,7 @@ def operation():
         if rng.random() < .003:
             return 0x1f
         if rng.random() < (.5 if mood == "words" else .05):
-            return rng.choice([0x17, 0x1b, 0x1b, 0x1c, 0x1d, 0x1e, 0x1e])
+            return rng.choice([0x1b, 0x1b, 0x1c, 0x1d, 0x1e, 0x1e])
     if mood == "crowd":
         return rng.choice([4, 4, 4, what, what, what, 9, 3, 1])
     if mood == "heads":
@@ -69,7 +69,7 @@ def operation():
         return rng.choice([4, 4, 4, 4, 9, 9, 9, 0xa, 0xa, 0xa, 0xa, 0xa, 0xb, 0xb, 0x13, 8, 0x12, 5, 7, 3, 0x10, 0x11])
     if mood == "words":
         return rng.choice([1, 3, 4, 4, 4, 4, 5, 7, 9, 0x14])
-    return rng.randrange(0x01, 0x18 if machine.operations is model.TABLES else 0x15)
+    return rng.randrange(0x01, 0x17 if machine.operations is model.TABLES else 0x15)
 
 
 def word():
@@ -106,8 +106,6 @@ def frame():
             y = rng.choice([t.id for t in present if t.state == 5] or ids)
         if op == 0x1d:
             a = rng.choice([0, 1, 127, 128, 255])
-    elif op == 0x17:
-        y = rng.choice([*ids, own.id, rng.randrange(kernel.next_id), kernel.next_id, 0xffffffff])
     elif op == 8:
         y = rng.choice([0, 1, 1, 2, 3, 10, 0xffffffff])
     elif 0xa <= op <= 0x11 or op in (0x15, 0x16):
@@ -615,96 +613,9 @@ def charges(seed, tick=0):
     return b"\n".join(out)
 
 
-def loads(seed, tick=0, charged=False):
-    """A list of `tables`, as bytes: loads of tasks, of ids that are gone and of such as were never given, before the start, before the first tick
-    after it, and between calls that charge, end, reap and add. By the seed one to fifteen tasks. At times more than a thousand ticks, almost
-    all of one task. Charged: on the kernels of model.MANY_CHARGED, by the seed each in turn."""
-    rng, machine, out = random.Random(seed), model.Machine(True, tick, model.MANY_CHARGED if charged else False), []
-
-    def call(op, k=0, y=0):
-        out.append(f"{op:02x}{k:02x}{y:08x}".encode())
-        machine.step(out[-1])
-
-    def switch():
-        call(4, 0, machine.kernel.own().start)
-
-    def add():
-        present = [task.start for task in machine.kernel.slots if task is not None]
-        free = [start for start in range(9216, 9472, 16) if start not in present]
-        call(1, rng.choice([7, 8, 8, 8]), rng.choice(free) << 16 | 16)
-
-    def ids(state=None):
-        return [task.id for task in machine.kernel.slots if task is not None and state in (None, task.state)]
-
-    def ask(some=3):
-        """Loads of so many of those that are there, and at times of others."""
-        next_id = machine.kernel.next_id
-        gone = [id for id in range(min(next_id, 40)) if id not in ids()]
-        asked = rng.sample(ids(), min(some, len(ids()))) + [machine.kernel.own().id] * (rng.random() < .3)
-        asked += rng.sample(gone, min(len(gone), rng.randrange(2))) + rng.choice([[], [], [next_id], [next_id + 1], [model.U32], [0]])
-        for id in asked:
-            call(0x17, 0, id)
-        if rng.random() < .03:
-            call(0x17, rng.choice([1, 128, 255]), rng.choice(ids()))
-
-    if charged:
-        call(0x1f, 0, seed % len(model.MANY_CHARGED) + 1)
-        ask(16)
-    else:
-        for _ in range(rng.randrange(3)):
-            call(3)
-        ask()
-        for _ in range(seed % 15 + 1):
-            add()
-        ask()
-        call(2)
-        ask(16)
-        if rng.random() < .3:
-            # One ends and is reaped before the first tick.
-            call(5)
-            switch()
-            call(0x14)
-            ask()
-    if seed % 40 == 7 and tick == 0 and not charged:
-        call(3)
-        ask(16)
-        switch()
-        for _ in range(rng.randrange(1001, 1100)):
-            call(3)
-        ask(16)
-    # Every second time few are added, and idle has turns.
-    adds = 1 + seed // 15 % 2 * 4
-    for _ in range(rng.randrange(10, 60)):
-        op = rng.choice([3] * 10 + [4] * 8 + [5] * 4 + [7] * 4 + [0x14] * 2 + [1] * adds + [8, 9, 0x12, 0x12, 0x13, 6])
-        if op == 1:
-            add()
-        elif op == 4:
-            switch()
-        elif op == 7:
-            call(op, 0, rng.choice(rng.choice([ids(model.TERMINATED), ids()]) or [0]))
-        elif op in (6, 9):
-            call(op, 0, rng.choice(ids()))
-        elif op == 8:
-            call(op, 0, rng.randrange(4))
-        elif op == 0x12:
-            call(op, rng.choice([0, 2, 3, 4]))
-        else:
-            call(op)
-        if rng.random() < .5:
-            ask(rng.randrange(1, 4))
-    ask(16)
-    if seed % 4 == 0 and not charged:
-        # Another kernel, or hz 0 and the same.
-        call(0x1f, 0, rng.choice([0, 1000]))
-        ask()
-        call(2)
-        ask()
-    return b"\n".join(out)
-
-
 if __name__ == "__main__":
     if len(sys.argv) > 4 and sys.argv[1] == "late":
-        made = [kind(seed, model.LATE) for kind in (limits, charges, loads) for seed in range(int(sys.argv[2]), int(sys.argv[2]) + int(sys.argv[3]))]
+        made = [kind(seed, model.LATE) for kind in (limits, charges) for seed in range(int(sys.argv[2]), int(sys.argv[2]) + int(sys.argv[3]))]
         against.compare(made, "tables", sys.argv[4:], model.LATE)
         sys.exit()
     if len(sys.argv) < 7 or sys.argv[5] not in ("turns", "tables"):
@@ -712,5 +623,5 @@ if __name__ == "__main__":
     first, lines, share, lists = int(sys.argv[1]), int(sys.argv[2]), float(sys.argv[3]), int(sys.argv[4])
     made = [make(seed, lines, share, sys.argv[5] == "tables") for seed in range(first, first + lists)]
     made += [kind(seed) for kind in (queues, chains) for seed in range(first, first + 10 * lists)]
-    made += [kind(seed) for kind in (limits, ended, times, charges, loads) for seed in range(first, first + 10 * lists) if sys.argv[5] == "tables"]
+    made += [kind(seed) for kind in (limits, ended, times, charges) for seed in range(first, first + 10 * lists) if sys.argv[5] == "tables"]
     against.compare(made, sys.argv[5], sys.argv[6:])

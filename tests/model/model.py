@@ -1,6 +1,6 @@
 #!/usr/bin/env python3
-"""A model of document 01's step with document 02's W-201, W-202 and W-204 to W-207, following the words of documents 01 to 05. Its author
-had read the published Rust too.
+"""A model of document 01's step with document 02's W-201, W-202, W-204, W-205 and W-206, following the words of documents 01 to 05. Its
+author had read the published Rust too.
 
   model.py turns    standard input as `turns` reads it; prints what `turns` prints
   model.py tables   the same for `tables`, which has operations of its own: after each answer the table
@@ -9,7 +9,6 @@ had read the published Rust too.
 
 Every refusal that a list from fresh can meet is there, and those that only other kernels can meet (6, 15, 18, 19) too; 1 by the charges and
 the owned counts alone (ODD). After every line W-206's law is asserted: see Machine.adds_up."""
-import random
 import sys
 from collections import Counter
 
@@ -25,8 +24,6 @@ CHARGED = [(0, {}, 0), (10, {0: 1, 1: 2, 15: 3}, 4), (10, {0: 1, 1: 2, 15: 3}, 5
            (16, {at: 1 for at in range(16)}, 1), (U64, {0: U64}, 0), (U64, {}, U64), (U64, {0: U64}, 1), (U64, {0: 1 << 63, 1: 1 << 63}, 0),
            (U64, {at: (1 << 60) - 1 for at in range(16)}, 15), (U64, {at: (1 << 60) - 1 for at in range(16)}, 16),
            (U64, {at: U64 for at in range(16)}, U64), (5, {0: U64, 1: 6}, 0), (10, {1: 3, 2: 4}, 2), (U64 - 9, {}, U64 - 11)]
-# The same, for loads of charges past 2^63.
-LOADED = [(U64, {0: U64 - 1}, 1), (U64, {0: 1 << 63, 1: (1 << 63) - 1}, 0), (U64, {0: 0xFEDCBA9876543210, 15: 0x123456789ABCDEF}, 0), (U64, {0: 1}, U64 - 1)]
 
 
 def ms_to_ticks(hz, ms):
@@ -546,20 +543,6 @@ class Kernel:
         assert ms == quotient       # 05, 29
         return 0, ms
 
-    def load(self, id):
-        """The value is the share, in thousandths of the ticks since the start, and the remainder. As 02 has it: 1000 * charge = share * ticks
-        + remainder, remainder below ticks. Python's integers have no end, so the product fits."""
-        at = self.find(id)
-        if at is None:
-            return 8, None
-        ticks = sum(self.charges) + self.retired
-        if ticks == 0:
-            return 24, None
-        charge = self.charges[at]
-        share, remainder = divmod(1000 * charge, ticks)
-        assert 1000 * charge == share * ticks + remainder and 0 <= remainder < ticks and 0 <= share <= 1000 and remainder <= U64
-        return 0, (share, remainder)
-
     def list(self, arena, records):
         """Writes (id, state, priority, used, total) into a lent list."""
         if len(records) < self.task_count:
@@ -652,7 +635,7 @@ def twice(name, first, second, priority, third, current, more=({}, {}, {}), **ob
 
 
 # What fresh with hz n gives in such tests, n being the place, from 1: CHARGED, then the kernels of crates/book_exam/specs/Odd.antt, by their
-# names, then LOADED.
+# names.
 ODD = [Odd("charged", *given) for given in CHARGED]
 ODD += [
     Odd("owner-fields", tasks={1: (5, 128, RUNNING, {"owned": 1})}, current=1,
@@ -677,30 +660,6 @@ ODD += [
     twice("waiter-twice Blocked Ready", BLOCKED, READY, 200, READY, 0, mutexes={0: (True, 7, None, [5])}),
     twice("own-mutex Ready", BLOCKED, READY, 3, RUNNING, 3, mutexes={0: (True, 5, None, [5])}),
     twice("own-mutex Blocked", BLOCKED, BLOCKED, 3, RUNNING, 3, mutexes={0: (True, 5, None, [5])})]
-ODD += [Odd(f"loaded {n}", *given) for n, given in enumerate(LOADED, 1)]
-
-
-def some_charged(seed):
-    """For tests of loads: a kernel in which up to eight tasks, most of them Ready or ended, and empty slots have charges of up to 64 bits, and the
-    retired sum too. Cut anywhere, into equal parts, or all but a little at one place."""
-    rng = random.Random(seed)
-    ticks = U64 if rng.random() < .5 else rng.randrange(1 << rng.choice([64, 64, 64, rng.randrange(1, 64)]))
-    slots = rng.sample(range(1, SLOTS), rng.randrange(9))
-    at = [*rng.sample(range(SLOTS), rng.randrange(17)), "retired"] if rng.random() < .6 else [0, rng.choice([*range(1, SLOTS), "retired"])]
-    rng.shuffle(at)
-    few = min(ticks, 3000)
-    cuts = rng.choice([[rng.randrange(ticks + 1) for _ in at[1:]], [n * (ticks // len(at)) for n in range(1, len(at))], [rng.randrange(few + 1) for _ in at[1:]]])
-    cuts = [0, *sorted(cuts), ticks]
-    parts = {where: after - before for where, before, after in zip(at, cuts, cuts[1:])}
-    retired = parts.pop("retired", 0)
-    tasks = {slot: (id, rng.choice([7, 8]), rng.choice([READY, READY, TERMINATED, BLOCKED]), {}) for id, slot in enumerate(slots, 1)}
-    tick = rng.choice([ticks, ticks, min(ticks + rng.randrange(100), U64), U64])
-    if rng.random() < .4:
-        return Odd(f"some charged {seed}", tick, parts, retired, tasks)
-    return Odd(f"some charged {seed}", tick, parts, retired, {0: (0, 255, RUNNING, {}), **tasks}, 0)
-
-
-MANY_CHARGED = [some_charged(seed) for seed in range(300, 360)]
 
 
 def fresh(hz, arena):
@@ -741,7 +700,6 @@ TABLES = {
     **TURNS,
     0x15: ("ky", lambda machine, k, y: machine.kernel.acquire(k, y)),
     0x16: ("ky", lambda machine, k, y: machine.kernel.event_wait(k, y)),
-    0x17: ("y", lambda machine, k, y: machine.load(y)),
     0x18: ("ky", lambda machine, k, y: machine.ticks_to_ms(y, k)),
     0x1B: ("k", lambda machine, k, y: machine.list(k)),
     0x1C: ("", lambda machine, k, y: machine.kernel.current_id()),
@@ -755,10 +713,9 @@ class Machine:
     """What is under `turns` or `tables`: a line in, an answer out."""
 
     def __init__(self, tables, tick=0, odd=False):
-        """Tick: with which tick_count a fresh kernel begins, for tests of the last ticks. Odd: fresh gives the kernels of ODD too, or of another
-        list."""
+        """Tick: with which tick_count a fresh kernel begins, for tests of the last ticks. Odd: fresh gives the kernels of ODD too."""
         self.operations = TABLES if tables else TURNS
-        self.arena, self.tick, self.odd = [0] * 4096, tick, ODD if odd is True else odd
+        self.arena, self.tick, self.odd = [0] * 4096, tick, odd
         self.fresh(1000)
 
     def adds_up(self):
@@ -778,8 +735,8 @@ class Machine:
             self.kernel = kernel
             kernel.tick_count = self.tick
             self.ticks = 0      # accepted after the start
-            if self.odd and hz <= len(self.odd):
-                self.odd[hz - 1].give(kernel)
+            if self.odd and hz <= len(ODD):
+                ODD[hz - 1].give(kernel)
         return number, 0
 
     def list(self, lent):
@@ -788,16 +745,6 @@ class Machine:
         if number == 0:
             self.appended = " " + ";".join(",".join(map(str, record)) for record in records[:written])
         return number, written
-
-    def load(self, id):
-        """The remainder stands behind the answer."""
-        number, value = self.kernel.load(id)
-        if number != 0:
-            return number, 0
-        assert self.odd or self.ticks == sum(self.kernel.charges) + self.kernel.retired     # W-206
-        share, remainder = value
-        self.appended = f" {remainder:016x}"
-        return 0, share
 
     def ticks_to_ms(self, y, k):
         """Of y * 2^k ticks."""
@@ -899,52 +846,6 @@ def times_met(kernel, k, y, number):
             yield rate, "past 2^64, accepted if it wrapped"
 
 
-# Loads that are not 02's: by charge, ticks, kernel and id.
-WRONG_LOADS = {
-    "without the retired sum": lambda charge, ticks, kernel, id: ticks > kernel.retired and divmod(1000 * charge, ticks - kernel.retired),
-    "by tick_count": lambda charge, ticks, kernel, id: divmod(1000 * charge, kernel.tick_count),
-    "to the nearest": lambda charge, ticks, kernel, id: ((2000 * charge + ticks) // (2 * ticks), 1000 * charge % ticks),
-    "per hundred": lambda charge, ticks, kernel, id: (10 * (100 * charge // ticks), 1000 * charge % ticks),
-    "of the slot of that number": lambda charge, ticks, kernel, id: id < SLOTS and divmod(1000 * kernel.charges[id], ticks),
-    "of current": lambda charge, ticks, kernel, id: divmod(1000 * kernel.charges[kernel.current], ticks)}
-
-
-def loads_met(kernel, id, number, share, remainder):
-    """What was to be seen of a load, as tuples; see LOADS in tests/adversarial/run."""
-    ticks, at = sum(kernel.charges) + kernel.retired, kernel.find(id)
-    whose = None if at is None else "idle's" if at == 0 else "current's" if at == kernel.current else "another's"
-    if number == 8:
-        yield 8, "gone" if id < kernel.next_id else "never given", ticks > 0
-    if number == 24:
-        yield 24, whose, kernel.started
-        if kernel.tick_count:
-            yield 24, "ticks before the start", kernel.started
-    if number != 0:
-        return
-    charge, charged = kernel.charges[at], sum(task is not None and charge > 0 for task, charge in zip(kernel.slots, kernel.charges))
-    yield "of", whose, kernel.slots[at].state if at else charge > 0
-    yield "charged", min(charged, 3), kernel.retired > 0
-    yield "remainder", "above 0" if remainder else "0", kernel.retired > 0
-    yield "share", ("0, a charge" if charge else "0, none") if share == 0 else share if share > 998 else "1 to 998"
-    if charge:
-        yield "slot", at
-    if ticks > 1000:
-        yield "ticks past 1000", kernel.retired > 0
-    if kernel.moved.get(at):
-        yield "in a slot with a charge before", charge > 0
-    if not kernel.started:
-        yield "not started",
-    if kernel.tick_count == U64:
-        yield "at the last tick", kernel.retired > 0
-    if any(charge for task, charge in zip(kernel.slots, kernel.charges) if task is None):
-        yield "an empty slot has a charge",
-    if 1000 * charge > U64:
-        yield "bits", (1000 * charge).bit_length()
-    if remainder > U64 // 2:
-        yield "remainder past 2^63",
-    yield from (("not", name) for name, wrong in WRONG_LOADS.items() if wrong(charge, ticks, kernel, id) != (share, remainder))
-
-
 # The operations that alter a charge or the retired sum.
 CHARGING = (b"01", b"03", b"07", b"14", b"1f")
 
@@ -991,8 +892,7 @@ def charges_met(before, kernel, op, y, number):
 
 def broken_law(lines, printed):
     """W-206's law held to what `tables` printed for these lines, a fresh kernel's first, and to that alone: the first line, from 0, after which
-    the charges of occupied slots and the retired sum are not the ticks accepted after the start, or an empty slot has a charge; or which is
-    a load and does not answer W-207's equation over them; or None."""
+    the charges of occupied slots and the retired sum are not the ticks accepted after the start, or an empty slot has a charge; or None."""
     ticks, started = 0, False
     for n, line in enumerate(lines):
         accepted, parts = printed[2 * n].startswith("00"), printed[2 * n + 1].rstrip("\n").split(" | ")
@@ -1004,12 +904,6 @@ def broken_law(lines, printed):
         charges, occupied = [int(charge) for charge in parts[5].split(",")], {int(slot.partition(",")[0]) for slot in parts[0].split(";")}
         if sum(charges[at] for at in occupied) + int(parts[8]) != ticks or any(charges[at] for at in range(SLOTS) if at not in occupied):
             return n
-        if accepted and line.startswith(b"17"):
-            ids = {int(id): int(at) for at, id in (slot.split(",")[:2] for slot in parts[0].split(";"))}
-            answer, _, rest = printed[2 * n].partition(" ")
-            share, remainder = int(answer[2:10], 16), int(rest, 16)
-            if 1000 * charges[ids[int(line[4:], 16)]] != share * ticks + remainder or remainder >= ticks:
-                return n
     return None
 
 
@@ -1102,9 +996,9 @@ def run(data, tables, out, tick=0, odd=False):
     """Appends what `turns` or `tables` prints, line by line. Gives the pairs of operation and number that were met; of each
     release and signal that dropped heads the operation, their states (EMPTY for one that is gone) and how many ids stay queued; what
     was done to limits; of which ticks milliseconds were asked; what was to be seen of ranks, each with how often; and what was done to
-    charges and seen of loads, likewise."""
+    charges, likewise."""
     machine, table, met, drops, limits, times, ranks = Machine(tables, tick, odd), None, set(), set(), set(), set(), Counter()
-    charges, loads = Counter(), Counter()
+    charges = Counter()
     for line in lines_of(data):
         kernel = machine.kernel
         queues = any(mutex.queue for mutex in kernel.mutexes)
@@ -1124,14 +1018,12 @@ def run(data, tables, out, tick=0, odd=False):
             ranks.update(set(ranks_met(seen, kernel, op)))
         if charged and number != 0xFF:
             charges.update(charges_met(charged, kernel, op, int(line[4:12], 16), number))
-        if op == 0x17 and number not in (1, 0xFF):
-            loads.update(loads_met(kernel, int(line[4:12], 16), number, value, int(machine.appended or "0", 16)))
         out.append(machine.answer(number, value))
         if tables:
             if number == 0 or table is None:    # a refusal alters nothing
                 table = machine.kernel.table() + "\n"
             out.append(table)
-    return met, drops, limits, times, ranks, charges, loads
+    return met, drops, limits, times, ranks, charges
 
 
 def replay(data, out):

@@ -6,9 +6,8 @@ use std::panic;
 use std::process::{ExitCode, exit};
 
 use kernel::interface::{
-    ACQUIRE_WITHIN, Call, EVENT_WAIT_WITHIN, FRESH, LIST, LOAD, LOCK, SLOTS, TICKS_TO_MS, call,
-    current, empty, fresh_in, in_domain, init, possible, records, refusal, renew, set_current,
-    tables, words,
+    ACQUIRE_WITHIN, Call, EVENT_WAIT_WITHIN, FRESH, LIST, LOCK, SLOTS, TICKS_TO_MS, call, current,
+    empty, fresh_in, in_domain, init, possible, records, refusal, renew, set_current, tables, words,
 };
 
 use crate::notation::{parse, put_answer, put_records, put_tables};
@@ -48,18 +47,16 @@ fn end(out: &mut Vec<u8>, code: i32) -> ! {
 
 /// Says that a line is outside the domain, and stops. What 01 does not refuse
 /// is outside for W-201, a lock for W-205; a wait with a limit, which 01 has
-/// not, for W-202, milliseconds from ticks for W-204, and load for W-207.
+/// not, for W-202, and milliseconds from ticks for W-204.
 fn leave(out: &mut Vec<u8>, line: &[u8], number: u8) -> ! {
     let limited = |asked: Call| matches!(asked.op, ACQUIRE_WITHIN | EVENT_WAIT_WITHIN);
     let timed = |asked: Call| asked.op == TICKS_TO_MS && asked.k <= 32;
-    let shared = |asked: Call| asked.op == LOAD && asked.k == 0;
     let blocks = |asked: Call| asked.op == LOCK;
     let why = match number {
         0 if parse(line).is_some_and(blocks) => "document 02's W-205".to_string(),
         0 => "document 02's W-201".to_string(),
         _ if parse(line).is_some_and(limited) => "document 02's W-202".to_string(),
         _ if parse(line).is_some_and(timed) => "document 02's W-204".to_string(),
-        _ if parse(line).is_some_and(shared) => "document 02's W-207".to_string(),
         _ => format!("document 01's number {number:02x}"),
     };
     eprintln!(

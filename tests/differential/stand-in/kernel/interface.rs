@@ -152,11 +152,10 @@ pub const STATUS: u8 = 0x12;
 pub const BLOCK: u8 = 0x13;
 pub const REAP_ONE: u8 = 0x14;
 
-// Of `tables` alone. The first four, the waits with a limit, load and
-// milliseconds from ticks, the Rust has not: they are outside the domain.
+// Of `tables` alone. The first three, the waits with a limit and milliseconds
+// from ticks, the Rust has not: they are outside the domain.
 pub const ACQUIRE_WITHIN: u8 = 0x15;
 pub const EVENT_WAIT_WITHIN: u8 = 0x16;
-pub const LOAD: u8 = 0x17;
 pub const TICKS_TO_MS: u8 = 0x18;
 pub const LIST: u8 = 0x1b;
 pub const CURRENT_ID: u8 = 0x1c;
