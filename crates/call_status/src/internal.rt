@@ -1,4 +1,6 @@
 // For a caller that may know already that the kernel is whole.
+#![tactic(auto, using(kernel::proofs::Step::step_refused, kernel::proofs::Step::step_accepted), unfolding(kernel::specs::Calls::number, kernel::specs::Calls::value, kernel::specs::Calls::effect))]
+
 ghost use Rattle.std.specs.Prelude.{◌≡◌, true, ◌||◌, not};
 ghost use Rattle.kernel.specs.Kernel.{whole};
 ghost use Rattle.kernel.specs.Calls.{status, block, sleep, step};

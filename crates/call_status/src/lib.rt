@@ -23,6 +23,7 @@ fn started_number(k: Kernel, is_whole: bool) -> u8
     answer::refuse_if(!is_whole, 1, answer::refuse_if(!k.started, 2, 0))
 }
 
+#[tactic(auto, using(kernel::proofs::Step::step_refused, kernel::proofs::Step::step_accepted), unfolding(kernel::specs::Calls::number, kernel::specs::Calls::value, kernel::specs::Calls::effect))]
 pub fn current_task_id(k: Kernel) -> Answer
     ensures { result ≡ step k current_id }
 {
@@ -58,6 +59,7 @@ fn state_of(n: u8) -> TaskState
 }
 
 // 1 not whole; 2 not started; 7 Running, Terminated or above 5.
+#[tactic(auto, unfolding(kernel::specs::Calls::number))]
 fn status_number(k: Kernel, is_whole: bool, state: u8) -> u8
     requires { is_whole ≡ whole k }
     ensures { result ≡ number k (status state) }

@@ -5,7 +5,8 @@ ghost use Rattle.std.specs.Prelude.{◌≡◌, not};
 ghost use Rattle.base.specs.Choice.{if◌then◌else◌};
 ghost use Rattle.kernel.specs.Kernel.{is_present, whole};
 ghost use Rattle.kernel.specs.Scheduler.{set_result};
-ghost use Rattle.kernel.specs.Calls.{wake, result, step};
+ghost use Rattle.kernel.specs.Calls;
+ghost use Rattle.kernel.specs.Calls.{wake, step};
 
 use kernel::control::TaskId;
 use kernel::scheduler::{Answer, Kernel, Value};
@@ -15,7 +16,7 @@ pub mod internal;
 
 // Blocked becomes Ready, yes; anything else is accepted unchanged, no. Refused: 1.
 pub fn wake_task(k: Kernel, id: TaskId) -> Answer
-    ensures* { λ r. ⌜ r ≡ step k (wake id) ⌝ }
+    ensures { result ≡ step k (wake id) }
 {
     internal::wake_task(k, false, id)
 }
@@ -23,14 +24,14 @@ pub fn wake_task(k: Kernel, id: TaskId) -> Answer
 // 1 not whole; 8 unknown.
 fn result_number(k: Kernel, is_whole: bool, id: TaskId) -> u8
     requires { is_whole ≡ whole k }
-    ensures* { λ r. ⌜ r ≡ (if not (whole k) then 1 else if not (is_present k id) then 8 else 0) ⌝ }
+    ensures { result ≡ (if not (whole k) then 1 else if not (is_present k id) then 8 else 0) }
 {
     let present = leaf_table::internal::slot_of(k, id) < Kernel::MAX_TASKS;
     answer::refuse_if(!is_whole, 1, answer::refuse_if(!present, 8, 0))
 }
 
 fn with_result(mut k: Kernel, id: TaskId, res: i32) -> Kernel
-    ensures* { λ r. ⌜ r ≡ set_result id res k ⌝ }
+    ensures { result ≡ set_result id res k }
 {
     let i = leaf_table::internal::slot_of(k, id);
     if Kernel::MAX_TASKS <= i {
@@ -43,7 +44,7 @@ fn with_result(mut k: Kernel, id: TaskId, res: i32) -> Kernel
 }
 
 pub fn set_syscall_result(k: Kernel, id: TaskId, value: i32) -> Answer
-    ensures* { λ r. ⌜ r ≡ step k (result id value) ⌝ }
+    ensures { result ≡ step k (Calls.result id value) }
 {
     let is_whole = leaf_whole::internal::is_whole(k, false);
     let number = result_number(k, is_whole, id);
