@@ -1,6 +1,6 @@
 -- The kernel in the loop of a tick: the first slots are walked.
 use Prim.Native.Nat.{ℕ, ◌+◌, ◌≤◌, ◌<◌, ◌-◌}
-use mathlib.Core.Path.{◌≡◌, refl, sym, ap, ◌∙◌}
+use mathlib.Core.Path.{◌≡◌, refl, ap, ◌∙◌}
 use mathlib.Core.List.{List}
 use mathlib.Core.Bool.{Bool, true, false, ◌&&◌, ◌||◌}
 use native.Mathlib.Omega.{arith}
@@ -11,7 +11,6 @@ use lib.Seq.{set-get_or}
 use borrow.Author.Tests.{ltb-true}
 use Rattle.base.specs.Choice.{if◌then◌else◌}
 use Rattle.base.specs.Below.{any_below}
-use Rattle.base.proofs.Choices.{taken, left, and_left, and_right}
 use Rattle.base.proofs.Loops.{Upto, any_start, upto_any, any_done, sum_at}
 use Rattle.kernel.specs.declared.control.LimitObject.{LimitObject}
 use Rattle.kernel.specs.declared.control.LimitObject.TheVariants.{NoLimit, AtSemaphore, AtEvent}
@@ -29,7 +28,7 @@ use Rattle.kernel.specs.Update.{with_tasks, with_charges, with_tick_count}
 use Rattle.kernel.specs.Scheduler
 use Rattle.kernel.specs.Scheduler.{is_due, is_limit_due, woken, unqueued, visited, walked, spent, clocked, advanced, sliced, wants, wants_switch}
 use Rattle.kernel.specs.Calls.{tick, value, effect, accepted}
-use Rattle.kernel.proofs.Whole.{Whole, is_whole}
+use Rattle.kernel.proofs.Whole.{is_whole}
 use Rattle.kernel.proofs.Unlimited.{due_occupied}
 use Rattle.kernel.proofs.Walk.{Beside, walked_beside, unqueued_tasks, walked_after}
 
