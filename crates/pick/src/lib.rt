@@ -1,4 +1,4 @@
-// The choice of the next task over bytes, for C. Module `internal` has the same over the table.
+// The choice of the next task over bytes, which crate pick_c exports for C. Module `internal` has the same over the table.
 #![tactic(auto)]
 
 ghost use Rattle.std.specs.Prelude.{◌≡◌, ℕ, ◌<◌, eqb, ltb, length, get_or};
@@ -105,9 +105,8 @@ fn any_unknown(states: &[u8]) -> bool
     found
 }
 
-// For C: the pick over 16 state bytes and 16 priority bytes; 255 stands for refusal 22.
-#[unsafe(no_mangle)]
-pub extern "C" fn tibsulan_pick(states: &[u8], priorities: &[u8], current: u8) -> u8
+// The pick over 16 state bytes and 16 priority bytes; 255 stands for refusal 22.
+pub fn tibsulan_pick(states: &[u8], priorities: &[u8], current: u8) -> u8
     ensures { result ≡ pick_bytes states.now priorities.now current }
 {
     if states.len() != Kernel::MAX_TASKS {
