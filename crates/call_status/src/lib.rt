@@ -37,6 +37,7 @@ pub fn current_task_id(k: Kernel) -> Answer
     answer::accepted(Value::Id(id), k)
 }
 
+#[tactic(auto, using(base::proofs::Choices::taken, base::proofs::Choices::left, base::proofs::Choices::tests), unfolding(kernel::specs::Control::state_of))]
 fn state_of(n: u8) -> TaskState
     ensures { result ≡ state_of n }
 {

@@ -7,6 +7,7 @@ use kernel::control::TaskId;
 use kernel::scheduler::{Answer, Kernel};
 use leaf_table::internal::answer;
 
+#[tactic(auto, using(kernel::proofs::Step::step_refused, kernel::proofs::Step::step_accepted, leaf_table::proofs::Laws::slot_tells, leaf_table::proofs::Laws::slot_wakes), unfolding(kernel::specs::Calls::number, kernel::specs::Calls::value, kernel::specs::Calls::effect))]
 pub fn wake_task(k: Kernel, known: bool, id: TaskId) -> Answer
     requires { (not known || whole k) ≡ true }
     ensures { result ≡ step k (wake id) }

@@ -30,6 +30,7 @@ fn result_number(k: Kernel, is_whole: bool, id: TaskId) -> u8
     answer::refuse_if(!is_whole, 1, answer::refuse_if(!present, 8, 0))
 }
 
+#[tactic(auto, using(base::proofs::Choices::taken, base::proofs::Choices::left, base::proofs::Choices::tests), unfolding(kernel::specs::Kernel::at_id))]
 fn with_result(mut k: Kernel, id: TaskId, res: i32) -> Kernel
     ensures { result ≡ set_result id res k }
 {
@@ -43,6 +44,7 @@ fn with_result(mut k: Kernel, id: TaskId, res: i32) -> Kernel
     k
 }
 
+#[tactic(auto, using(kernel::proofs::Step::step_refused, kernel::proofs::Step::step_accepted), unfolding(kernel::specs::Calls::number, kernel::specs::Calls::value, kernel::specs::Calls::effect))]
 pub fn set_syscall_result(k: Kernel, id: TaskId, value: i32) -> Answer
     ensures { result ≡ step k (Calls.result id value) }
 {
