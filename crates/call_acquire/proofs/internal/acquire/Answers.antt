@@ -1,0 +1,24 @@
+-- Refused, and accepted.
+use Rattle.std.proofs.Common.{refl, sym, ◌∙◌}
+use Rattle.kernel.specs.Calls.{acquire, value}
+use Rattle.kernel.proofs.Accepted.{accepted_is, accepted_object}
+use Rattle.kernel.proofs.Step.{step_refused, step_accepted}
+use Rattle.call_acquire.proofs.internal.acquire.Goals as goal
+
+pub returns-then-number-ne0 : goal.returns-then-number-ne0
+returns-then-number-ne0 c =
+    step_refused _ (acquire _) _ _ c.acquire_number-number.ensures c.if-number-ne0.true c.refused.ensures
+
+pub has_permit-got-requires : goal.has_permit-got-requires
+has_permit-got-requires c = accepted_object _ (acquire _) _ _ (sym c.acquire_number-number.ensures ∙ c.if-number-ne0.false) refl
+
+pub acquired-requires : goal.acquired-requires
+acquired-requires c =
+    let e = sym c.acquire_number-number.ensures ∙ c.if-number-ne0.false in
+    ((accepted_is _ (acquire _) e).current_slot, accepted_object _ (acquire _) _ _ e refl)
+
+pub returns : goal.returns
+unfolding value
+returns c =
+    step_accepted _ (acquire _) _ _ c.acquire_number-number.ensures c.if-number-ne0.false
+    (rw (c.accepted.ensures, c.acquired.ensures, c.has_permit-got.ensures))
