@@ -6,7 +6,7 @@ use mathlib.Core.Path.{◌≡◌, refl, sym, ap, ◌∙◌}
 use mathlib.Core.Bool.{Bool, true, false}
 use mathlib.Core.List.{List, [], ◌∷◌, ◌++◌, append_assoc}
 use lib.Dec.{eqb}
-use lib.ListN.{length, set, take, drop, get_or, replicate, length-set, length-replicate, length-append, length-drop}
+use lib.ListN.{length, set, take, drop, get_or, replicate, length-set, length-replicate, length-append}
 use lib.Seq.{take-suc-set, take-suc, drop-cons, set_at, length-take-le}
 use borrow.Author.Tests.{eqb-true, eq-eqb, ne_eqb, ltb-false}
 use Rattle.base.specs.Choice.{if◌then◌else◌}
@@ -57,9 +57,6 @@ infos_count k arena (suc n) = one_more (slot k n).occupied (infos_count k arena 
 -- ---- the records with the first i written
 abbrev pub filled : List TaskInfo → ℕ → List TaskInfo → List TaskInfo
 filled xs i ys = take i xs ++ drop i ys
-
-pub filled_length : (xs : List TaskInfo) (i : ℕ) (ys : List TaskInfo) → i ≤ length xs → i ≤ length ys → length (filled xs i ys) ≡ length ys
-filled_length xs i ys h g = length-append (take i xs) (drop i ys) ∙ omega (arith, length-take-le i xs h, length-drop i ys)
 
 pub filled_more : (xs : List TaskInfo) (i : ℕ) (ys : List TaskInfo) → i < length xs → i < length ys → set (filled xs i ys) i (get_or xs i blank_info) ≡ filled xs (i + 1) ys
 filled_more xs i ys h g =

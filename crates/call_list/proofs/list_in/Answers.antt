@@ -1,0 +1,14 @@
+-- The first n of the blank records are lent, and what the call made of them stands before the others.
+use Rattle.std.proofs.Common.{◌≡◌, ◌-◌, ◌∙◌, take, drop, replicate}
+use Rattle.std.proofs.lemmas.List.{take-replicate, drop-replicate}
+use Rattle.call_list.specs.Records.{blank_info}
+use Rattle.call_list.proofs.list_in.Goals as goal
+
+pub returns : goal.returns
+returns c =
+    let n = c.args.n in
+    let lent : take n c.blanks-out.result ≡ replicate n blank_info =
+    rw c.blanks-out.ensures (take-replicate n 16 blank_info c.requires) in
+    let kept : drop n c.blanks-out.result ≡ replicate (16 - n) blank_info =
+    rw c.blanks-out.ensures (drop-replicate n 16 blank_info) in
+    (c.packed.ensures.0 ∙ rw lent at c.tasks-answer.ensures.0, c.packed.ensures.1 ∙ rw (c.tasks-answer.ensures.1, lent, kept))
