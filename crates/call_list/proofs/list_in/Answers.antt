@@ -11,4 +11,5 @@ returns c =
     rw c.blanks-out.ensures (take-replicate n 16 blank_info c.requires) in
     let kept : drop n c.blanks-out.result ≡ replicate (16 - n) blank_info =
     rw c.blanks-out.ensures (drop-replicate n 16 blank_info) in
-    (c.packed.ensures.0 ∙ rw lent at c.tasks-answer.ensures.0, c.packed.ensures.1 ∙ rw (c.tasks-answer.ensures.1, lent, kept))
+    let t = c.tasks-answer.ensures in
+    (c.packed.ensures.0 ∙ rw lent at t.0, c.packed.ensures.1 ∙ rw (t.1, lent, kept))

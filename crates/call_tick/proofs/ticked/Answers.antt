@@ -34,32 +34,33 @@ loop-i-init c = walking_start _ _
 -- the object of a limit that is due is one of the four
 pub bounds-k-s : goal.bounds-k-s
 bounds-k-s c =
-    semaphore_fits _ _ c.in-AtSemaphore.is
-    (walking_fits c.loop-i.invariant c.requires.0 c.loop-i-test.true (sym c.is_limit_due.ensures ∙ c.if-is_limit_due.true))
+    let due = sym c.is_limit_due.ensures ∙ c.if-is_limit_due.true in
+    semaphore_fits _ _ c.in-AtSemaphore.is (walking_fits c.loop-i.invariant c.requires.0 c.loop-i-test.true due)
 
 pub bounds-k-s-in-AtSemaphore : goal.bounds-k-s-in-AtSemaphore
 bounds-k-s-in-AtSemaphore c =
-    semaphore_fits _ _ c.in-AtSemaphore.is
-    (walking_fits c.loop-i.invariant c.requires.0 c.loop-i-test.true (sym c.is_limit_due.ensures ∙ c.if-is_limit_due.true))
+    let due = sym c.is_limit_due.ensures ∙ c.if-is_limit_due.true in
+    semaphore_fits _ _ c.in-AtSemaphore.is (walking_fits c.loop-i.invariant c.requires.0 c.loop-i-test.true due)
 
 pub bounds-k-e : goal.bounds-k-e
 bounds-k-e c =
-    event_fits _ _ c.in-AtEvent.is
-    (walking_fits c.loop-i.invariant c.requires.0 c.loop-i-test.true (sym c.is_limit_due.ensures ∙ c.if-is_limit_due.true))
+    let due = sym c.is_limit_due.ensures ∙ c.if-is_limit_due.true in
+    event_fits _ _ c.in-AtEvent.is (walking_fits c.loop-i.invariant c.requires.0 c.loop-i-test.true due)
 
 pub bounds-k-e-in-AtEvent : goal.bounds-k-e-in-AtEvent
 bounds-k-e-in-AtEvent c =
-    event_fits _ _ c.in-AtEvent.is
-    (walking_fits c.loop-i.invariant c.requires.0 c.loop-i-test.true (sym c.is_limit_due.ensures ∙ c.if-is_limit_due.true))
+    let due = sym c.is_limit_due.ensures ∙ c.if-is_limit_due.true in
+    event_fits _ _ c.in-AtEvent.is (walking_fits c.loop-i.invariant c.requires.0 c.loop-i-test.true due)
 
 pub loop-i-preserved : goal.loop-i-preserved
 loop-i-preserved c =
     let inv = c.loop-i.invariant in
     let test = c.loop-i-test.true in
+    let limit = sym c.is_limit_due.ensures in
     elim c.if-is_limit_due.branch [
       | then-is_limit_due w ↦
           rw (w.k-is, w.woke-is, w.expired-next.ensures)
-          (walking_limit {k' = w.match-object.k} inv test (sym c.is_limit_due.ensures ∙ w.if-is_limit_due.true)
+          (walking_limit {k' = w.match-object.k} inv test (limit ∙ w.if-is_limit_due.true)
           (elim w.match-object.branch [
             | in-NoLimit v ↦ at_none _ _ _ _ v.in-NoLimit.is v.k-is
             | in-AtSemaphore v ↦ at_semaphore _ _ _ _ _ _ v.in-AtSemaphore.is v.semaphore_without-next.ensures v.k-is
@@ -67,10 +68,10 @@ loop-i-preserved c =
           ]))
       | else-is_limit_due+then-is_due w ↦
           rw (w.k-is, w.woke-is, w.entered-next.ensures)
-          (walking_due inv test (sym c.is_limit_due.ensures ∙ w.if-is_limit_due.false) (sym w.is_due.ensures ∙ w.if-is_due.true))
+          (walking_due inv test (limit ∙ w.if-is_limit_due.false) (sym w.is_due.ensures ∙ w.if-is_due.true))
       | else-is_limit_due+else-is_due w ↦
           rw (w.k-is, w.woke-is)
-          (walking_other inv test (sym c.is_limit_due.ensures ∙ w.if-is_limit_due.false) (sym w.is_due.ensures ∙ w.if-is_due.false))
+          (walking_other inv test (limit ∙ w.if-is_limit_due.false) (sym w.is_due.ensures ∙ w.if-is_due.false))
     ]
 
 pub returns-then-not-k : goal.returns-then-not-k

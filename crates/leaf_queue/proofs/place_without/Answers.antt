@@ -1,4 +1,4 @@
--- Each return is a branch of the definition. Past the eighth place the definition reads what a list has past its end, zero.
+-- Each return is a branch of the definition. Past the eighth place that reads what a list has past its end, zero.
 use Rattle.std.proofs.Common.{◌+◌, ◌≤◌, length, refl, sym, arith}
 use Rattle.std.proofs.Math.ListN.{get_or-eq_default}
 use Rattle.std.proofs.lemmas.Bool.{le-leb, lt-leb, lt-ltb, le-ltb}

@@ -1,4 +1,4 @@
--- The array starts as zeros, is filled place by place with what `place_without` answers, and is the definition's when full.
+-- The array starts as zeros, is filled place by place with what `place_without` answers, and is full at the end.
 use Rattle.std.proofs.Common.{refl}
 use Rattle.base.proofs.Loops.{filled_start, filled_more, filled_done}
 use Rattle.kernel.specs.WaitQueue.{without}

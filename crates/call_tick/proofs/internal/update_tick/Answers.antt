@@ -6,7 +6,8 @@ use Rattle.kernel.proofs.Step.{step_refused, step_accepted}
 use Rattle.call_tick.proofs.internal.update_tick.Goals as goal
 
 pub returns-then-number-ne0 : goal.returns-then-number-ne0
-returns-then-number-ne0 c = step_refused _ Calls.tick _ _ c.tick_number-number.ensures c.if-number-ne0.true c.refused.ensures
+returns-then-number-ne0 c =
+    step_refused _ Calls.tick _ _ c.tick_number-number.ensures c.if-number-ne0.true c.refused.ensures
 
 pub ticked-requires : goal.ticked-requires
 ticked-requires c =

@@ -4,7 +4,8 @@ use Rattle.std.proofs.lemmas.List.{length-take-le, drop-drop}
 use Rattle.kernel.specs.Control.{paint, painted}
 use Rattle.leaf_stack.proofs.internal.paint_region.Goals as goal
 
-back : (s n : ℕ) (xs ys : List ℕ) → s + n ≤ length xs → ys ≡ replicate (length (take (s + n - s) (drop s xs))) paint →
+back : (s n : ℕ) (xs ys : List ℕ) → s + n ≤ length xs →
+    ys ≡ replicate (length (take (s + n - s) (drop s xs))) paint →
     take s xs ++ (ys ++ drop (s + n - s) (drop s xs)) ≡ take s xs ++ (replicate n paint ++ drop (s + n) xs)
 back s n xs ys h e =
     let q : s + n - s ≡ n = omega arith in
