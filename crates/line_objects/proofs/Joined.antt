@@ -60,9 +60,6 @@ all_before p (suc i) f = rw (lt-ltb 0 (suc i) (omega arith), f i (omega arith)) 
 
 -- Every number has a text, of at most `most` bytes, after a byte that stands before all but the first.
 module _ {byte : ℕ} {text : ℕ → List ℕ} {room n : ℕ} {out out' out'' : List ℕ} {at b c : ℕ} (most i : ℕ) (j : Joining byte (λ _. true) text room n out at out' b i) (h : i < n) (w : Writes out' b (between (ltb 0 i) byte) out'' c) (s : c ≤ b + 1) (fits : most < room) where
-  pub text_room : c + most ≤ length out''
-  text_room = omega (arith, joining_room i j h, written_length _ w)
-
   pub joining_each : {out''' : List ℕ} {d : ℕ} → Writes out'' c (text i) out''' d → d ≤ c + most → Joining byte (λ _. true) text room n out at out''' d (i + 1)
   unfolding if◌then◌else◌
   joining_each v t = joining_more (ltb 0 i) i j h (λ _. all_before (λ _. true) i (λ _ _. refl)) (written_then _ _ w v) (omega arith)
