@@ -1,6 +1,6 @@
 // Plays the calls on standard input and prints an answer for each line, as document 01 has it.
 #![tactic(auto)]
 
-fn main() {
-    line_program::run(false);
+fn main(rt: HostRuntime) {
+    line_program::run(&rt, false);
 }
