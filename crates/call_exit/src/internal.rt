@@ -7,6 +7,7 @@ use crate::{exit_number, exited};
 use kernel::scheduler::{Answer, Kernel, Value};
 use leaf_table::internal::answer;
 
+#[tactic(auto, using(kernel::proofs::Step::step_refused, kernel::proofs::Step::step_accepted), unfolding(kernel::specs::Calls::value))]
 pub fn exit_current_task(k: Kernel, known: bool) -> Answer
     requires { (not known || whole k) ≡ true }
     ensures { result ≡ step k exit }

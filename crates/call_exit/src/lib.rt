@@ -22,6 +22,7 @@ fn exit_late_number(k: Kernel) -> u8
     answer::refuse_if(idle, 10, answer::refuse_if(0 < t.owned_mutex_count, 11, 0))
 }
 
+#[tactic(auto, using(base::proofs::Choices::taken, base::proofs::Choices::left, base::proofs::Choices::tests), unfolding(kernel::specs::Calls::number))]
 fn exit_number(k: Kernel, is_whole: bool) -> u8
     requires { is_whole ≡ whole k }
     ensures { result ≡ number k exit }
@@ -55,6 +56,7 @@ fn wake_waiter(k: Kernel, waiter: OptionTaskId) -> Kernel
     }
 }
 
+#[tactic(auto, unfolding(kernel::specs::Calls::effect, kernel::specs::Scheduler::exit))]
 fn exited(mut k: Kernel) -> Kernel
     requires { current k < 16 }
     ensures { result ≡ effect k exit }

@@ -8,6 +8,7 @@ use kernel::control::TaskId;
 use kernel::scheduler::{Answer, Kernel, Value};
 use leaf_table::internal::answer;
 
+#[tactic(auto, using(kernel::proofs::Step::step_refused, kernel::proofs::Step::step_accepted), unfolding(kernel::specs::Calls::value))]
 pub fn wait_task(k: Kernel, known: bool, id: TaskId) -> Answer
     requires { (not known || whole k) ≡ true }
     ensures { result ≡ step k (wait id) }

@@ -30,6 +30,7 @@ fn has_other_waiter(t: TaskControl, id: TaskId) -> bool
 }
 
 // 7 oneself; 8 unknown id; 9.
+#[tactic(auto, using(base::proofs::Choices::taken, base::proofs::Choices::left, base::proofs::Choices::tests, leaf_table::proofs::Laws::absent, leaf_table::proofs::Laws::present))]
 fn wait_late_number(k: Kernel, id: TaskId) -> u8
     requires { current k < 16 }
     ensures { result ≡ first_of (drop 1 (checks k (wait id))) }
@@ -49,6 +50,7 @@ fn wait_late_number(k: Kernel, id: TaskId) -> u8
     0
 }
 
+#[tactic(auto, using(base::proofs::Choices::taken, base::proofs::Choices::left, base::proofs::Choices::tests), unfolding(kernel::specs::Calls::number))]
 fn wait_number(k: Kernel, is_whole: bool, id: TaskId) -> u8
     requires { is_whole ≡ whole k }
     ensures { result ≡ number k (wait id) }
@@ -62,6 +64,7 @@ fn wait_number(k: Kernel, is_whole: bool, id: TaskId) -> u8
     wait_late_number(k, id)
 }
 
+#[tactic(auto, using(base::proofs::Choices::taken, base::proofs::Choices::left, base::proofs::Choices::tests), unfolding(kernel::specs::Calls::effect, kernel::specs::Scheduler::wait))]
 fn waited(mut k: Kernel, id: TaskId) -> Kernel
     requires { (current k < 16) × (slot_of k id < 16) }
     ensures { result ≡ effect k (wait id) }
