@@ -9,7 +9,8 @@ pub returns-then-first-ne0 : goal.returns-then-first-ne0
 unfolding number
 returns-then-first-ne0 c =
     let a = c.args in
-    refused_early (object_checks a.k a.s) (drop 2 (checks a.k (acquire a.s))) _ c.object_number-first.ensures c.if-first-ne0.true
+    refused_early (object_checks a.k a.s) (drop 2 (checks a.k (acquire a.s))) _
+    c.object_number-first.ensures c.if-first-ne0.true
 
 pub acquire_late_number-requires : goal.acquire_late_number-requires
 acquire_late_number-requires c =

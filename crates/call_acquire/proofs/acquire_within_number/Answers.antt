@@ -11,7 +11,8 @@ pub returns-then-first-ne0 : goal.returns-then-first-ne0
 unfolding number
 returns-then-first-ne0 c =
     let a = c.args in
-    refused_early (object_checks a.k a.s) (drop 2 (checks a.k (acquire_within a.s a.ticks))) _ c.object_number-first.ensures c.if-first-ne0.true
+    refused_early (object_checks a.k a.s) (drop 2 (checks a.k (acquire_within a.s a.ticks))) _
+    c.object_number-first.ensures c.if-first-ne0.true
 
 pub returns-then-ticks-eq0 : goal.returns-then-ticks-eq0
 unfolding number
@@ -30,4 +31,5 @@ unfolding number
 returns c =
     let a = c.args in
     passed_early (object_checks a.k a.s) (drop 2 (checks a.k (acquire_within a.s a.ticks))) _ _ refl
-    c.object_number-first.ensures c.if-first-ne0.false (left _ _ _ _ (ne_eqb a.ticks 0 c.if-ticks-eq0.false) c.acquire_late_number.ensures)
+    c.object_number-first.ensures c.if-first-ne0.false
+    (left _ _ _ _ (ne_eqb a.ticks 0 c.if-ticks-eq0.false) c.acquire_late_number.ensures)

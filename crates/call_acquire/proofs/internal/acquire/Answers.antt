@@ -10,7 +10,9 @@ returns-then-number-ne0 c =
     step_refused _ (acquire _) _ _ c.acquire_number-number.ensures c.if-number-ne0.true c.refused.ensures
 
 pub has_permit-got-requires : goal.has_permit-got-requires
-has_permit-got-requires c = accepted_object _ (acquire _) _ _ (sym c.acquire_number-number.ensures ∙ c.if-number-ne0.false) refl
+has_permit-got-requires c =
+    let e = sym c.acquire_number-number.ensures ∙ c.if-number-ne0.false in
+    accepted_object _ (acquire _) _ _ e refl
 
 pub acquired-requires : goal.acquired-requires
 acquired-requires c =

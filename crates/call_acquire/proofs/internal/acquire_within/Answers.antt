@@ -7,10 +7,13 @@ use Rattle.call_acquire.proofs.internal.acquire_within.Goals as goal
 
 pub returns-then-number-ne0 : goal.returns-then-number-ne0
 returns-then-number-ne0 c =
-    step_refused _ (acquire_within _ _) _ _ c.acquire_within_number-number.ensures c.if-number-ne0.true c.refused.ensures
+    step_refused _ (acquire_within _ _) _ _
+    c.acquire_within_number-number.ensures c.if-number-ne0.true c.refused.ensures
 
 pub has_permit-got-requires : goal.has_permit-got-requires
-has_permit-got-requires c = accepted_object _ (acquire_within _ _) _ _ (sym c.acquire_within_number-number.ensures ∙ c.if-number-ne0.false) refl
+has_permit-got-requires c =
+    let e = sym c.acquire_within_number-number.ensures ∙ c.if-number-ne0.false in
+    accepted_object _ (acquire_within _ _) _ _ e refl
 
 pub acquired_within-requires : goal.acquired_within-requires
 acquired_within-requires c =

@@ -10,10 +10,14 @@ returns-then-number-ne0 c =
     step_refused _ (try_acquire _) _ _ c.try_acquire_number-number.ensures c.if-number-ne0.true c.refused.ensures
 
 pub has_permit-got-requires : goal.has_permit-got-requires
-has_permit-got-requires c = accepted_object _ (try_acquire _) _ _ (sym c.try_acquire_number-number.ensures ∙ c.if-number-ne0.false) refl
+has_permit-got-requires c =
+    let e = sym c.try_acquire_number-number.ensures ∙ c.if-number-ne0.false in
+    accepted_object _ (try_acquire _) _ _ e refl
 
 pub tried-requires : goal.tried-requires
-tried-requires c = accepted_object _ (try_acquire _) _ _ (sym c.try_acquire_number-number.ensures ∙ c.if-number-ne0.false) refl
+tried-requires c =
+    let e = sym c.try_acquire_number-number.ensures ∙ c.if-number-ne0.false in
+    accepted_object _ (try_acquire _) _ _ e refl
 
 pub returns : goal.returns
 unfolding value

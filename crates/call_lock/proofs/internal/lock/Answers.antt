@@ -7,7 +7,8 @@ use Rattle.call_lock.proofs.Laws.{current_owned}
 use Rattle.call_lock.proofs.internal.lock.Goals as goal
 
 pub returns-then-number-ne0 : goal.returns-then-number-ne0
-returns-then-number-ne0 c = step_refused _ (lock _) _ _ c.lock_number-number.ensures c.if-number-ne0.true c.refused.ensures
+returns-then-number-ne0 c =
+    step_refused _ (lock _) _ _ c.lock_number-number.ensures c.if-number-ne0.true c.refused.ensures
 
 pub lock_got-got-requires : goal.lock_got-got-requires
 lock_got-got-requires c =

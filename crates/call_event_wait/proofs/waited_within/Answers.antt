@@ -1,0 +1,13 @@
+-- A signal, and none.
+use Rattle.base.proofs.Choices.{taken, left}
+use Rattle.kernel.specs.Event.{event_wait_within}
+use Rattle.kernel.specs.Calls.{effect}
+use Rattle.call_event_wait.proofs.waited_within.Goals as goal
+
+pub returns-then-k-e : goal.returns-then-k-e
+unfolding effect event_wait_within
+returns-then-k-e c = taken _ _ _ _ c.if-k-e.true c.signal_taken.ensures
+
+pub returns : goal.returns
+unfolding effect event_wait_within
+returns c = left _ _ _ _ c.if-k-e.false (rw (c.limited.ensures, c.blocked.ensures))
