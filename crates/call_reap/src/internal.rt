@@ -8,6 +8,7 @@ use kernel::control::TaskId;
 use kernel::scheduler::{Answer, Kernel, Value};
 use leaf_table::internal::answer;
 
+#[tactic(auto, using(kernel::proofs::Step::step_refused, kernel::proofs::Step::step_accepted), unfolding(kernel::specs::Calls::value, kernel::specs::Calls::effect))]
 pub fn reap_task(k: Kernel, known: bool, id: TaskId) -> Answer
     requires { (not known || whole k) ≡ true }
     ensures { result ≡ step k (reap id) }
@@ -21,6 +22,7 @@ pub fn reap_task(k: Kernel, known: bool, id: TaskId) -> Answer
     reaped(k, i)
 }
 
+#[tactic(auto, using(kernel::proofs::Step::step_refused, kernel::proofs::Step::step_accepted, base::proofs::Choices::taken, base::proofs::Choices::left, base::proofs::Choices::tests), unfolding(kernel::specs::Calls::value, kernel::specs::Calls::effect, kernel::specs::Scheduler::reap_one))]
 pub fn reap_one(k: Kernel, known: bool) -> Answer
     requires { (not known || whole k) ≡ true }
     ensures { result ≡ step k reap_one }

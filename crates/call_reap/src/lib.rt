@@ -37,6 +37,7 @@ fn reaped(k: Kernel, i: usize) -> Answer
 }
 
 // 8 unknown; 9 slot 0, current or not Terminated.
+#[tactic(auto, using(base::proofs::Choices::taken, base::proofs::Choices::left, base::proofs::Choices::tests))]
 fn reap_late_number(k: Kernel, id: TaskId) -> u8
     ensures { result ≡ first_of (checks k (reap id)) }
 {
@@ -49,6 +50,7 @@ fn reap_late_number(k: Kernel, id: TaskId) -> u8
     answer::refuse_if(kept, 9, 0)
 }
 
+#[tactic(auto, using(base::proofs::Choices::taken, base::proofs::Choices::left, base::proofs::Choices::tests), unfolding(kernel::specs::Calls::number))]
 fn reap_number(k: Kernel, is_whole: bool, id: TaskId) -> u8
     requires { is_whole ≡ whole k }
     ensures { result ≡ number k (reap id) }
@@ -65,6 +67,7 @@ pub fn reap_task(k: Kernel, id: TaskId) -> Answer
     internal::reap_task(k, false, id)
 }
 
+#[tactic(auto, unfolding(kernel::specs::Control::holds_task))]
 fn is_reapable(t: TaskControl, i: usize, current: usize) -> bool
     ensures { result ≡ (leb 1 i && not (eqb i current) && holds_task Terminated t) }
 {
@@ -72,6 +75,7 @@ fn is_reapable(t: TaskControl, i: usize, current: usize) -> bool
 }
 
 // The lowest Terminated slot from 1, never current; 16 where there is none.
+#[tactic(auto, using(base::proofs::Loops::searching, base::proofs::Choices::tests), unfolding(kernel::specs::Scheduler::reapable_slot))]
 fn reapable(k: Kernel) -> usize
     ensures { result ≡ reapable_slot k }
 {
@@ -84,6 +88,7 @@ fn reapable(k: Kernel) -> usize
     Kernel::MAX_TASKS
 }
 
+#[tactic(auto, unfolding(kernel::specs::Calls::number))]
 fn reap_one_number(k: Kernel, is_whole: bool) -> u8
     requires { is_whole ≡ whole k }
     ensures { result ≡ number k reap_one }

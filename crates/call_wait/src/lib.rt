@@ -30,7 +30,7 @@ fn has_other_waiter(t: TaskControl, id: TaskId) -> bool
 }
 
 // 7 oneself; 8 unknown id; 9.
-#[tactic(auto, using(base::proofs::Choices::taken, base::proofs::Choices::left, base::proofs::Choices::tests, leaf_table::proofs::Laws::absent, leaf_table::proofs::Laws::present))]
+#[tactic(auto, using(base::proofs::Choices::taken, base::proofs::Choices::left, base::proofs::Choices::tests))]
 fn wait_late_number(k: Kernel, id: TaskId) -> u8
     requires { current k < 16 }
     ensures { result ≡ first_of (drop 1 (checks k (wait id))) }
