@@ -12,5 +12,5 @@ returns c =
     let a = c.args in
     let w = c.wake_one-w in
     rw (← w.ensures.waiters)
-    (answered (with_semaphore a.s (record { count = (semaphore a.k a.s).count + 1; waiters = w.result.waiters })) _ a.k w.result _
-    refl w.ensures c.woken.ensures)
+    (answered (with_semaphore a.s (record { count = (semaphore a.k a.s).count + 1; waiters = w.result.waiters }))
+    _ a.k w.result _ refl w.ensures c.woken.ensures)
