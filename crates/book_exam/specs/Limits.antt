@@ -1,5 +1,5 @@
 -- Waits with a limit (02, W-202) that no list of the programs gets to: what the definitions make of kernels given here, and what was worked out by hand.
-use Rattle.std.specs.Prelude.{ℕ, ◌-◌, ◌^◌, ◌≡◌, refl, true, List, [], ◌∷◌, ◌++◌, map, length, replicate}
+use Rattle.std.specs.Prelude.{ℕ, ◌+◌, ◌-◌, ◌^◌, ◌≡◌, refl, true, List, [], ◌∷◌, ◌++◌, map, length, replicate}
 use Rattle.base.specs.Choice.{if◌then◌else◌, every}
 use Rattle.base.specs.Below.{all_below, any_below, count_below, sum_below, lowest_below, tabulate}
 use Rattle.kernel.specs.declared.control.LimitObject.TheVariants.{AtSemaphore}
