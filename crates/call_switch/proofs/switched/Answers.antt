@@ -23,8 +23,11 @@ slot_is s n e = ap index e
 abbrev with_saved : Kernel → TaskControl → Kernel
 with_saved k saved = with_tasks (set k.tasks (current k) saved) k
 
-turned : (k : Kernel) (sp : ℕ) (saved full next : TaskControl) (s : SlotIndex) → saved ≡ context_saved sp (current_task k) → s.0 ≡ next_task (with_saved k saved) → full ≡ reloaded (slot (with_saved k saved) s.0) → next ≡ entered Running full
-    → accepted (Turn s (slot (with_saved k saved) s.0).sp) (with_current s.0 (with_tasks (set (with_saved k saved).tasks s.0 next) k)) ≡ accepted (picked (save_context sp k)) (Scheduler.switch sp k)
+turned : (k : Kernel) (sp : ℕ) (saved full next : TaskControl) (s : SlotIndex)
+    → saved ≡ context_saved sp (current_task k) → s.0 ≡ next_task (with_saved k saved)
+    → full ≡ reloaded (slot (with_saved k saved) s.0) → next ≡ entered Running full
+    → accepted (Turn s (slot (with_saved k saved) s.0).sp) (with_current s.0 (with_tasks (set (with_saved k saved).tasks s.0 next) k))
+    ≡ accepted (picked (save_context sp k)) (Scheduler.switch sp k)
 unfolding Scheduler.switch
 turned k sp saved full next s a b c d = rw (d, c, slot_is s _ b, a)
 

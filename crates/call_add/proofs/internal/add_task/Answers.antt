@@ -11,7 +11,8 @@ use Rattle.kernel.proofs.Step.{step_refused, step_accepted}
 use Rattle.call_add.proofs.internal.add_task.Goals as goal
 
 -- what the checks tell where none of them refused, by the number r
-known : (k : Kernel) (arena : List ℕ) (p : Priority) (region : StackRegion) (r : ℕ) → r ≡ number k (Calls.add arena p region) → r ≡ 0 → AddAccepted k arena region
+known : (k : Kernel) (arena : List ℕ) (p : Priority) (region : StackRegion) (r : ℕ)
+    → r ≡ number k (Calls.add arena p region) → r ≡ 0 → AddAccepted k arena region
 known k arena p region r e z = add_accepted k arena p region (sym e ∙ z)
 
 pub returns-then-number-ne0 : goal.returns-then-number-ne0
