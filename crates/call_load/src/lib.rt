@@ -19,6 +19,7 @@ struct Part {
 }
 
 // All charges and the retired sum.
+#[tactic(auto, using(base::proofs::Loops::sum_start, base::proofs::Loops::sum_more))]
 fn ticks_since_start(k: Kernel) -> u64
     requires { whole k ≡ true }
     ensures { result ≡ charge_sum k }
@@ -31,6 +32,7 @@ fn ticks_since_start(k: Kernel) -> u64
 }
 
 // With so many more, at most the ticks: the sum is compared with the ticks before it is formed.
+#[tactic(auto, unfolding(crate::specs::Part::amount))]
 fn plus(p: Part, more: u64, ticks: u64) -> Part
     requires { (p.remainder < ticks) × (more ≤ ticks) × (p.share ≤ 2000) }
     ensures { AmountsTo ticks (amount ticks p + more) (p.share + 1) result }
@@ -48,6 +50,7 @@ fn plus(p: Part, more: u64, ticks: u64) -> Part
     }
 }
 
+#[tactic(auto, unfolding(crate::specs::Part::amount))]
 fn twice(p: Part, ticks: u64) -> Part
     requires { (p.remainder < ticks) × (p.share ≤ 1000) }
     ensures { AmountsTo ticks (2 * amount ticks p) (2 * p.share + 1) result }
@@ -59,6 +62,7 @@ fn twice(p: Part, ticks: u64) -> Part
     plus(shares, p.remainder, ticks)
 }
 
+#[tactic(auto, unfolding(crate::specs::Part::amount))]
 fn twice_and(p: Part, charge: u64, ticks: u64) -> Part
     requires { (p.remainder < ticks) × (charge ≤ ticks) × (p.share ≤ 900) }
     ensures { AmountsTo ticks (2 * amount ticks p + charge) (2 * p.share + 2) result }
