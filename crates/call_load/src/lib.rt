@@ -72,6 +72,7 @@ fn twice_and(p: Part, charge: u64, ticks: u64) -> Part
 
 // 1000 × charge, place by place of 1000 in binary, 1111101000: each place doubles, and a 1 adds the charge. Neither the
 // product nor a remainder of ticks or more is formed.
+#[tactic(auto, unfolding(crate::specs::Part::amount))]
 fn thousandfold(charge: u64, ticks: u64) -> Part
     requires { (0 < ticks) × (charge ≤ ticks) }
     ensures { IsLoad charge ticks result.share result.remainder }
