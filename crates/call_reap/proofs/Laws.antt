@@ -11,4 +11,6 @@ use Rattle.kernel.proofs.Whole.{is_whole}
 
 -- idle is a task
 pub can_reap : (k : Kernel) → whole k ≡ true → (1 ≤ k.task_count) × (charge_sum k ≤ k.tick_count)
-can_reap k e = let w = is_whole k e in (omega (arith, w.count, count_some (is_occupied k) 16 0 (lit< tt) w.idle), w.charges)
+can_reap k e =
+    let w = is_whole k e in
+    (omega (arith, w.count, count_some (is_occupied k) 16 0 (lit< tt) w.idle), w.charges)

@@ -11,4 +11,5 @@ overflow_add-sum c =
     let i = c.loop-i.i in
     let more : i + 1 ≤ 16 = omega arith in
     let clock : k.tick_count < 2 ^ 64 = search rules in
-    record { fits = omega (arith, sum_more (charge k) i, sum_le (charge k) (i + 1) 16 more, (is_whole k c.requires).charges) }
+    let so_far = sum_le (charge k) (i + 1) 16 more in
+    record { fits = omega (arith, sum_more (charge k) i, so_far, (is_whole k c.requires).charges) }

@@ -7,4 +7,5 @@ use Rattle.call_status.proofs.current_task_id.Goals as goal
 
 pub current_task-t-requires : goal.current_task-t-requires
 unfolding number
-current_task-t-requires c = (accepted_is _ Calls.current_id (sym c.started_number-number.ensures ∙ c.if-number-ne0.false)).current_slot
+current_task-t-requires c =
+    (accepted_is _ Calls.current_id (sym c.started_number-number.ensures ∙ c.if-number-ne0.false)).current_slot

@@ -12,13 +12,15 @@ past t hz h p = (le-div_iff_mul-le h).1 p
 
 pub returns-then-not-is_whole : goal.returns-then-not-is_whole
 returns-then-not-is_whole c =
-    step_refused _ (Calls.ticks_to_ms _) 1 _ (ms_not_whole _ _ (sym c.if-not-is_whole.ensures)) (λ z. omega arith) c.refused.ensures
+    step_refused _ (Calls.ticks_to_ms _) 1 _ (ms_not_whole _ _ (sym c.if-not-is_whole.ensures)) (λ z. omega arith)
+    c.refused.ensures
 
 pub returns-then-ticks-gt-MOST_TICKS : goal.returns-then-ticks-gt-MOST_TICKS
 returns-then-ticks-gt-MOST_TICKS c =
     let w = sym c.if-not-is_whole.ensures in
     let fits : c.args.k.hz < 2 ^ 32 = search rules in
-    step_refused _ (Calls.ticks_to_ms _) 23 _ (ms_past _ _ w (past _ _ (clocked _ w) (omega (arith, fits)))) (λ z. omega arith)
+    step_refused _ (Calls.ticks_to_ms _) 23 _ (ms_past _ _ w (past _ _ (clocked _ w) (omega (arith, fits))))
+    (λ z. omega arith)
     c.refused-then-ticks-gt-MOST_TICKS.ensures
 
 pub quotient-ms-requires : goal.quotient-ms-requires
@@ -26,7 +28,8 @@ quotient-ms-requires c = (omega arith, clocked _ (sym c.if-not-is_whole.ensures)
 
 pub returns-then-ms-gt-MOST_MS : goal.returns-then-ms-gt-MOST_MS
 returns-then-ms-gt-MOST_MS c =
-    step_refused _ (Calls.ticks_to_ms _) 23 _ (ms_past _ _ (sym c.if-not-is_whole.ensures) (omega arith)) (λ z. omega arith)
+    step_refused _ (Calls.ticks_to_ms _) 23 _ (ms_past _ _ (sym c.if-not-is_whole.ensures) (omega arith))
+    (λ z. omega arith)
     c.refused-then-ms-gt-MOST_MS.ensures
 
 pub returns : goal.returns

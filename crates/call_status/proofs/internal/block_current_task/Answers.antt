@@ -7,4 +7,5 @@ use Rattle.call_status.proofs.internal.block_current_task.Goals as goal
 
 pub set_status-requires : goal.set_status-requires
 unfolding number
-set_status-requires c = (accepted_is _ Calls.block (sym c.started_number-number.ensures ∙ c.if-number-ne0.false)).current_slot
+set_status-requires c =
+    (accepted_is _ Calls.block (sym c.started_number-number.ensures ∙ c.if-number-ne0.false)).current_slot

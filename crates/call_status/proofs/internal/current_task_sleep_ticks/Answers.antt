@@ -7,4 +7,6 @@ use Rattle.call_status.proofs.internal.current_task_sleep_ticks.Goals as goal
 
 pub put_to_sleep-requires : goal.put_to_sleep-requires
 unfolding number
-put_to_sleep-requires c = (accepted_is _ (Calls.sleep c.args.ticks) (sym c.started_number-number.ensures ∙ c.if-number-ne0.false)).current_slot
+put_to_sleep-requires c =
+    (accepted_is _ (Calls.sleep c.args.ticks)
+    (sym c.started_number-number.ensures ∙ c.if-number-ne0.false)).current_slot
