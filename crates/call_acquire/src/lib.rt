@@ -72,6 +72,7 @@ fn blocked(mut k: Kernel, s: usize) -> Kernel
     leaf_table::internal::set_status(k, TaskState::Blocked)
 }
 
+#[tactic(auto, using(base::proofs::Choices::taken, base::proofs::Choices::left, base::proofs::Choices::tests), unfolding(kernel::specs::Calls::effect, kernel::specs::Semaphore::acquire))]
 fn acquired(k: Kernel, s: usize) -> Kernel
     requires { (current k < 16) × (s < 4) }
     ensures { result ≡ effect k (acquire s) }
@@ -105,6 +106,7 @@ fn acquire_within_number(k: Kernel, is_whole: bool, s: usize, ticks: u64) -> u8
     acquire_late_number(k, s)
 }
 
+#[tactic(auto, using(base::proofs::Choices::taken, base::proofs::Choices::left, base::proofs::Choices::tests), unfolding(kernel::specs::Calls::effect, kernel::specs::Semaphore::acquire_within))]
 fn acquired_within(k: Kernel, s: usize, ticks: u64) -> Kernel
     requires { (current k < 16) × (s < 4) }
     ensures { result ≡ effect k (acquire_within s ticks) }
@@ -126,6 +128,7 @@ pub fn acquire_within(k: Kernel, s: usize, ticks: u64) -> Answer
 // ---- try acquire
 
 // 1 not whole; 20 object above 3.
+#[tactic(auto, unfolding(kernel::specs::Calls::number))]
 fn try_acquire_number(k: Kernel, is_whole: bool, s: usize) -> u8
     requires { is_whole ≡ whole k }
     ensures { result ≡ number k (try_acquire s) }
@@ -133,6 +136,7 @@ fn try_acquire_number(k: Kernel, is_whole: bool, s: usize) -> u8
     answer::refuse_if(!is_whole, 1, answer::refuse_if(Kernel::OBJECTS <= s, 20, 0))
 }
 
+#[tactic(auto, using(base::proofs::Choices::taken, base::proofs::Choices::left, base::proofs::Choices::tests), unfolding(kernel::specs::Calls::effect, kernel::specs::Semaphore::try_acquire))]
 fn tried(k: Kernel, s: usize) -> Kernel
     requires { s < 4 }
     ensures { result ≡ effect k (try_acquire s) }

@@ -63,6 +63,7 @@ fn blocked(mut k: Kernel, e: usize) -> Kernel
     leaf_table::internal::set_status(k, TaskState::Blocked)
 }
 
+#[tactic(auto, using(base::proofs::Choices::taken, base::proofs::Choices::left, base::proofs::Choices::tests), unfolding(kernel::specs::Calls::effect, kernel::specs::Event::event_wait))]
 fn waited(k: Kernel, e: usize) -> Kernel
     requires { (current k < 16) × (e < 4) }
     ensures { result ≡ effect k (event_wait e) }
@@ -96,6 +97,7 @@ fn wait_within_number(k: Kernel, is_whole: bool, e: usize, ticks: u64) -> u8
     wait_late_number(k, e)
 }
 
+#[tactic(auto, using(base::proofs::Choices::taken, base::proofs::Choices::left, base::proofs::Choices::tests), unfolding(kernel::specs::Calls::effect, kernel::specs::Event::event_wait_within))]
 fn waited_within(k: Kernel, e: usize, ticks: u64) -> Kernel
     requires { (current k < 16) × (e < 4) }
     ensures { result ≡ effect k (event_wait_within e ticks) }

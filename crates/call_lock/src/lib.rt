@@ -90,6 +90,7 @@ fn is_handed(k: Kernel, m: usize) -> bool
     owner.is(id) & handoff_to.is(id)
 }
 
+#[tactic(auto, using(base::proofs::Choices::taken, base::proofs::Choices::left, base::proofs::Choices::tests), unfolding(kernel::specs::Calls::effect, kernel::specs::Mutex::lock))]
 fn locked(k: Kernel, m: usize) -> Kernel
     requires { (current k < 16) × (m < 4) × (slot_of k (current_task_id k) < 16 → (slot k (slot_of k (current_task_id k))).owned_mutex_count ≤ 4) }
     ensures { result ≡ effect k (lock m) }
@@ -105,6 +106,7 @@ fn locked(k: Kernel, m: usize) -> Kernel
     blocked(k, m)
 }
 
+#[tactic(auto, unfolding(kernel::specs::Mutex::lock_answer))]
 fn lock_got(k: Kernel, m: usize) -> bool
     requires { (current k < 16) × (m < 4) }
     ensures { result ≡ lock_answer m k }

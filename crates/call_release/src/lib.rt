@@ -12,6 +12,7 @@ use leaf_table::internal::answer;
 pub mod internal;
 
 // 19 count 2^32 - 1.
+#[tactic(auto, using(base::proofs::Choices::taken, base::proofs::Choices::left, base::proofs::Choices::tests), unfolding(kernel::specs::Calls::number))]
 fn release_number(k: Kernel, is_whole: bool, s: usize) -> u8
     requires { is_whole ≡ whole k }
     ensures { result ≡ number k (release s) }

@@ -12,6 +12,7 @@ use leaf_table::internal::answer;
 pub mod internal;
 
 // 1 not whole; 20 object above 3.
+#[tactic(auto, unfolding(kernel::specs::Calls::number))]
 fn signal_number(k: Kernel, is_whole: bool, e: usize) -> u8
     requires { is_whole ≡ whole k }
     ensures { result ≡ number k (signal e) }

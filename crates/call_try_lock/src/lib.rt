@@ -10,6 +10,7 @@ use kernel::scheduler::{Answer, Kernel};
 
 pub mod internal;
 
+#[tactic(auto, using(base::proofs::Choices::taken, base::proofs::Choices::left, base::proofs::Choices::tests), unfolding(kernel::specs::Calls::effect, kernel::specs::Mutex::try_lock))]
 fn tried(k: Kernel, m: usize) -> Kernel
     requires { (current k < 16) × (m < 4) × (slot_of k (current_task_id k) < 16 → (slot k (slot_of k (current_task_id k))).owned_mutex_count ≤ 4) }
     ensures { result ≡ effect k (try_lock m) }

@@ -79,6 +79,7 @@ fn released(mut k: Kernel, m: usize) -> Kernel
     k
 }
 
+#[tactic(auto, using(base::proofs::Choices::taken, base::proofs::Choices::left, base::proofs::Choices::tests, crate::proofs::Laws::down_owned), unfolding(kernel::specs::Calls::effect, kernel::specs::Mutex::unlock))]
 fn unlocked(k: Kernel, m: usize) -> Kernel
     requires { (current k < 16) × (m < 4) × ((i : ℕ) → i < 16 → (slot k i).occupied ≡ true → (slot k i).owned_mutex_count ≤ 4) }
     ensures { result ≡ effect k (unlock m) }

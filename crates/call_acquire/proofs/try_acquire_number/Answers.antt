@@ -1,7 +1,0 @@
--- The checks in their order.
-use Rattle.kernel.specs.Calls.{number}
-use Rattle.call_acquire.proofs.try_acquire_number.Goals as goal
-
-pub returns : goal.returns
-unfolding number
-returns c = rw (c.refuse_if-2.ensures, c.refuse_if.ensures, c.requires)
