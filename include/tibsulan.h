@@ -1,7 +1,7 @@
 /* Tibsulan for C and C++: the pick, and a whole list of calls answered. For x86-64 Linux.
  *
- *   tibsulan_pick         rt staticlib pick         target/staticlib/libpick.a
- *   tibsulan_play_list    rt staticlib play_list    target/staticlib/libplay_list.a
+ *   tibsulan_pick         tests/build pick         target/staticlib/libpick.a
+ *   tibsulan_play_list    tests/build play_list    target/staticlib/libplay_list.a
  *
  * A slice is a pointer and a length. Of each the caller sees to it that the pointer is not NULL, for the length 0 too, that so many
  * bytes stand there, and that nobody else writes them during the call. With that each call ends on every input. Neither
