@@ -2,7 +2,8 @@
 ghost use Rattle.std.specs.Prelude.{◌≡◌, true, ◌||◌, not, ◌+◌, ◌≤◌, eqb, length, set};
 ghost use Rattle.base.specs.Choice.{if◌then◌else◌};
 ghost use Rattle.kernel.specs.Kernel.{whole};
-ghost use Rattle.kernel.specs.Calls.{current_id, result, acquire_within, event_wait_within, ticks_to_ms, step, init_words};
+ghost use Rattle.kernel.specs.Calls;
+ghost use Rattle.kernel.specs.Calls.{current_id, acquire_within, event_wait_within, ticks_to_ms, step, init_words};
 ghost use Rattle.line_text.specs.Text.{Writes};
 ghost use Rattle.line_dispatch.specs.Dispatch.{id_of, signed_byte, word_of, ticks_of, fresh_for, list_answer, list_adds, answer_to, words_after, added_to};
 
@@ -16,7 +17,7 @@ const NO_CALL: u8 = 255;
 
 // A signed byte.
 fn signed(k: u8) -> i32
-    ensures* { λ r. ⌜ r ≡ signed_byte k ⌝ }
+    ensures { result ≡ signed_byte k }
 {
     if k < 128 {
         return k as i32;
@@ -26,13 +27,13 @@ fn signed(k: u8) -> i32
 
 // What a word becomes.
 fn word_of(k: u8) -> u32
-    ensures* { λ r. ⌜ r ≡ word_of k ⌝ }
+    ensures { result ≡ word_of k }
 {
     if k == 0 { 0 } else { TaskControl::STACK_MAGIC }
 }
 
 fn set_word(arena: &mut [u32], at: usize, word: u32)
-    ensures* { λ _. ⌜ arena.new ≡ set arena.old at word ⌝ }
+    ensures { arena.new ≡ set arena.old at word }
 {
     if at < arena.len() {
         arena[at] = word;
@@ -41,7 +42,7 @@ fn set_word(arena: &mut [u32], at: usize, word: u32)
 
 // A fresh kernel takes the place of k, unless it is refused.
 fn init(k: Kernel, hz: u32, arena: &mut [u32]) -> Answer
-    ensures* { λ r. ⌜ (r ≡ fresh_for k hz (length arena.old)) × (arena.new ≡ init_words hz arena.old) ⌝ }
+    ensures { (result ≡ fresh_for k hz (length arena.old)) × (arena.new ≡ init_words hz arena.old) }
 {
     let a = call_init::init(hz, arena);
     if a.number != 0 {
@@ -53,8 +54,8 @@ fn init(k: Kernel, hz: u32, arena: &mut [u32]) -> Answer
 // A list call on that many records; what it adds to its answer is written into `out`.
 fn list(k: Kernel, room: usize, arena: &[u32], out: &mut [u8], at: &mut usize) -> Answer
     requires { at.old + 1681 ≤ length out.old }
-    ensures* fact { λ r. ⌜ (r ≡ list_answer k arena.now room) × Writes out.old at.old (list_adds k arena.now room) out.new at.new ⌝ }
-    ensures* short { λ r. ⌜ at.new ≤ at.old + 1681 ⌝ }
+    ensures value { (result ≡ list_answer k arena.now room) × Writes out.old at.old (list_adds k arena.now room) out.new at.new }
+    ensures short { at.new ≤ at.old + 1681 }
 {
     let listed = call_list::list_up_to(k, arena, room);
     let answer = listed.answer;
@@ -67,7 +68,7 @@ fn list(k: Kernel, room: usize, arena: &[u32], out: &mut [u8], at: &mut usize) -
 
 // The calls that `turns` has not: 0 current id, 1 result, 2 acquire with a limit, 3 event wait with a limit, 4 milliseconds from ticks.
 fn other(k: Kernel, which: u8, b: u8, y: u32) -> Answer
-    ensures* { λ r. ⌜ r ≡ step k (if eqb which 0 then current_id else if eqb which 1 then result (id_of y) (signed_byte b) else if eqb which 2 then acquire_within b y else if eqb which 3 then event_wait_within b y else ticks_to_ms (ticks_of b y)) ⌝ }
+    ensures { result ≡ step k (if eqb which 0 then current_id else if eqb which 1 then Calls.result (id_of y) (signed_byte b) else if eqb which 2 then acquire_within b y else if eqb which 3 then event_wait_within b y else ticks_to_ms (ticks_of b y)) }
 {
     let id = TaskId(y);
     let object = b as usize;
@@ -101,8 +102,8 @@ pub fn dispatch(
     at: &mut usize,
 ) -> Answer
     requires { ((not known || whole k) ≡ true) × (at.old + 1681 ≤ length out.old) }
-    ensures* fact { λ r. ⌜ (r ≡ answer_to k arena.old f) × (arena.new ≡ words_after k arena.old f) × Writes out.old at.old (added_to k arena.old f) out.new at.new ⌝ }
-    ensures* short { λ r. ⌜ at.new ≤ at.old + 1681 ⌝ }
+    ensures value { (result ≡ answer_to k arena.old f) × (arena.new ≡ words_after k arena.old f) × Writes out.old at.old (added_to k arena.old f) out.new at.new }
+    ensures short { at.new ≤ at.old + 1681 }
 {
     let operation = f.operation;
     let id = TaskId(f.y);
