@@ -1,4 +1,4 @@
-// A whole list of lines at once, for C and Rust to link.
+// A whole list of lines at once, which crate play_list_c exports for C.
 #![tactic(auto)]
 
 ghost use Rattle.std.specs.Prelude.{◌≤◌, false, length};
@@ -23,11 +23,9 @@ fn play_all(list: &[u8], out: &mut [u8]) -> usize
     n + finished.len
 }
 
-// For C: a whole list of lines from fresh, answered as `turns` answers it. The answers stand at the start of `out`; their length is
-// returned. `out` needs 13 bytes for each byte of the list and 13 more; where it has fewer, 0 is returned and nothing is altered. The two
-// must not overlap.
-#[unsafe(no_mangle)]
-pub extern "C" fn tibsulan_play_list(list: &[u8], out: &mut [u8]) -> usize
+// A whole list of lines from fresh, answered as `turns` answers it. The answers stand at the start of `out`; their length is
+// returned. `out` needs 13 bytes for each byte of the list and 13 more; where it has fewer, 0 is returned and nothing is altered.
+pub fn tibsulan_play_list(list: &[u8], out: &mut [u8]) -> usize
     ensures plays_list { PlaysList list.now out.old out.new result }
     ensures short { result ≤ length out.new }
 {
