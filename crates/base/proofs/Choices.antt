@@ -7,31 +7,31 @@ use lib.Dec.{eqb, ltb}
 use Prim.Native.Nat.{ℕ, zero, suc, ◌<◌, ◌≤◌}
 use native.Mathlib.Omega.{arith}
 use borrow.Author.Tests.{lt-ltb, le-ltb, le-leb, lt-leb, eq-eqb, ne_eqb}
-use Rattle.base.specs.Choice.{if◌then◌else◌, every}
+use Rattle.base.specs.Choice.{if◌then◌otherwise◌, every}
 
-pub taken : {A : Type 0} (b : Bool) (x y z : A) → b ≡ true → z ≡ x → z ≡ if b then x else y
-unfolding if◌then◌else◌
+pub taken : {A : Type 0} (b : Bool) (x y z : A) → b ≡ true → z ≡ x → z ≡ if b then x otherwise y
+unfolding if◌then◌otherwise◌
 taken b x y z e h = rw e h
 
-pub left : {A : Type 0} (b : Bool) (x y z : A) → b ≡ false → z ≡ y → z ≡ if b then x else y
-unfolding if◌then◌else◌
+pub left : {A : Type 0} (b : Bool) (x y z : A) → b ≡ false → z ≡ y → z ≡ if b then x otherwise y
+unfolding if◌then◌otherwise◌
 left b x y z e h = rw e h
 
 -- what both arms say, the choice says
-pub either : {A : Type 0} (P : A → Type 0) (b : Bool) {x y : A} → (b ≡ true → P x) → (b ≡ false → P y) → P (if b then x else y)
-unfolding if◌then◌else◌
+pub either : {A : Type 0} (P : A → Type 0) (b : Bool) {x y : A} → (b ≡ true → P x) → (b ≡ false → P y) → P (if b then x otherwise y)
+unfolding if◌then◌otherwise◌
 either P true f g = f refl
 either P false f g = g refl
 
 -- a function of a choice is the choice of its values
-pub through : {A B : Type 0} (f : A → B) (b : Bool) (x y : A) → f (if b then x else y) ≡ if b then f x else f y
-unfolding if◌then◌else◌
+pub through : {A B : Type 0} (f : A → B) (b : Bool) (x y : A) → f (if b then x otherwise y) ≡ if b then f x otherwise f y
+unfolding if◌then◌otherwise◌
 through f true x y = refl
 through f false x y = refl
 
 -- a check that refuses with n was not met, and what follows it is clear
-pub clear : (b : Bool) (n y : ℕ) → 0 < n → (if b then n else y) ≡ 0 → (b ≡ false) × (y ≡ 0)
-unfolding if◌then◌else◌
+pub clear : (b : Bool) (n y : ℕ) → 0 < n → (if b then n otherwise y) ≡ 0 → (b ≡ false) × (y ≡ 0)
+unfolding if◌then◌otherwise◌
 clear true n y h e = absurd (omega arith)
 clear false n y h e = (refl, e)
 

@@ -14,7 +14,7 @@ use native.Mathlib.Decide.{dec_lt, ℕ_discrete}
 use native.Mathlib.Numerals.{add-one}
 use mir.Val.{bool_byte}
 use borrow.Author.Tests.{lt-ltb, le-ltb, ltb-true, ltb-false}
-use Rattle.base.specs.Choice.{if◌then◌else◌}
+use Rattle.base.specs.Choice.{if◌then◌otherwise◌}
 use Rattle.base.specs.Below.{all_below, any_below, count_below, sum_below, lowest_below, largest_below, smallest_below, tabulate}
 use Rattle.base.proofs.Choices.{and_left, and_right, either, through}
 
@@ -125,8 +125,8 @@ pub byte_small : (b : Bool) → bool_byte b ≤ 1
 byte_small true = lit≤ tt
 byte_small false = lit≤ tt
 
-one_more : (b : Bool) (n : ℕ) → n + bool_byte b ≡ if b then suc n else n
-unfolding if◌then◌else◌
+one_more : (b : Bool) (n : ℕ) → n + bool_byte b ≡ if b then suc n otherwise n
+unfolding if◌then◌otherwise◌
 one_more true n = add-one n
 one_more false n = omega arith
 
@@ -158,7 +158,7 @@ count_same p q (suc n) f = rw (count_same p q n (λ i h. f i (omega arith)), f n
 
 -- q holds of one number more than p
 pub count_one : (p q : ℕ → Bool) (n x : ℕ) → x < n → p x ≡ false → q x ≡ true → ((i : ℕ) → (i ≡ x → ⊥) → q i ≡ p i) → count_below q n ≡ suc (count_below p n)
-unfolding count_below if◌then◌else◌
+unfolding count_below if◌then◌otherwise◌
 count_one p q zero x h e f s = absurd (omega arith)
 count_one p q (suc n) x h e f s =
     elim (ℕ_discrete n x) [
@@ -172,17 +172,17 @@ unfolding count_below
 count_within p q zero f = zero-le
 count_within p q (suc n) f =
     let r = count_within p q n f in
-    either (λ m. m ≤ (if p n then suc (count_below p n) else count_below p n)) (q n)
+    either (λ m. m ≤ (if p n then suc (count_below p n) otherwise count_below p n)) (q n)
     (λ e. either (λ m. suc (count_below q n) ≤ m) (p n) (λ _. omega (arith, r)) (λ g. absurd (false≢true (sym g ∙ f n e))))
     (λ _. either (λ m. count_below q n ≤ m) (p n) (λ _. omega (arith, r)) (λ _. r))
 
 pub count_fewer : (p q : ℕ → Bool) (n x : ℕ) → x < n → p x ≡ true → q x ≡ false → ((i : ℕ) → q i ≡ true → p i ≡ true) → count_below q n < count_below p n
-unfolding count_below if◌then◌else◌
+unfolding count_below if◌then◌otherwise◌
 count_fewer p q zero x h e g f = absurd (omega arith)
 count_fewer p q (suc n) x h e g f =
     elim (dec_lt x n) [
       | yes l ↦ let r = count_fewer p q n x l e g f in
-          either (λ m. m < (if p n then suc (count_below p n) else count_below p n)) (q n)
+          either (λ m. m < (if p n then suc (count_below p n) otherwise count_below p n)) (q n)
           (λ a. either (λ m. suc (count_below q n) < m) (p n) (λ _. omega (arith, r)) (λ b. absurd (false≢true (sym b ∙ f n a))))
           (λ _. either (λ m. count_below q n < m) (p n) (λ _. omega (arith, r)) (λ _. r))
       | no l ↦ let is : x ≡ n = only x n h l in rw (← is, e, g) (let r = count_within p q x f in omega (arith, r))
@@ -210,12 +210,12 @@ unfolding lowest_below
 search_start p n = (zero-le, refl)
 
 pub search_more : (p : ℕ → Bool) (n i : ℕ) → Upto (lowest_below p) n i i → i < n → p i ≡ false → Upto (lowest_below p) n (i + 1) (i + 1)
-unfolding lowest_below if◌then◌else◌
+unfolding lowest_below if◌then◌otherwise◌
 search_more p n i u h e = (omega arith, rw (add-one, ← u.1, le-ltb i i (le_refl i), e))
 
 -- and ends where p holds
 found : (p : ℕ → Bool) (i k : ℕ) → lowest_below p i ≡ i → p i ≡ true → lowest_below p (suc (k + i)) ≡ i
-unfolding lowest_below if◌then◌else◌
+unfolding lowest_below if◌then◌otherwise◌
 found p i zero u e = rw (zero_plus i, u, le-ltb i i (le_refl i), e)
   where
     zero_plus : (m : ℕ) → 0 + m ≡ m
@@ -240,7 +240,7 @@ pub ruleset searching = (search_start, search_more, search_found, search_done)
 
 -- one more to search: what was found stays found, and the last may be it
 pub lowest_next : (p : ℕ → Bool) (n : ℕ) → lowest_below p n < n → lowest_below p (n + 1) < n + 1
-unfolding lowest_below if◌then◌else◌
+unfolding lowest_below if◌then◌otherwise◌
 lowest_next p n h = rw (add-one, lt-ltb _ _ h) (omega arith)
 
 pub lowest_here : (p : ℕ → Bool) (n : ℕ) → p n ≡ true → lowest_below p (n + 1) < n + 1
@@ -294,7 +294,7 @@ lowest_same p q (suc n) f = rw (lowest_same p q n (λ i h. f i (omega arith)), f
 
 -- nothing below n
 pub lowest_none : (p : ℕ → Bool) (n : ℕ) → ((i : ℕ) → i < n → p i ≡ false) → lowest_below p n ≡ n
-unfolding lowest_below if◌then◌else◌
+unfolding lowest_below if◌then◌otherwise◌
 lowest_none p zero f = refl
 lowest_none p (suc n) f = rw (lowest_none p n (λ i h. f i (omega arith)), le-ltb n n (le_refl n), f n (omega arith))
 
@@ -302,7 +302,7 @@ lowest_none p (suc n) f = rw (lowest_none p n (λ i h. f i (omega arith)), le-lt
 
 -- p holds of m and of none above it
 pub largest_is : (p : ℕ → Bool) (n m : ℕ) → m < n → p m ≡ true → ((i : ℕ) → m < i → p i ≡ false) → largest_below p n ≡ m
-unfolding largest_below if◌then◌else◌
+unfolding largest_below if◌then◌otherwise◌
 largest_is p zero m h e above = absurd (omega arith)
 largest_is p (suc n) m h e above =
     elim (dec_lt m n) [
@@ -319,7 +319,7 @@ smallest_le p f x (suc n) = either (λ m. m ≤ x) (p n) (λ _. omega (arith, sm
 
 -- at most f of each that p holds of
 pub smallest_at : (p : ℕ → Bool) (f : ℕ → ℕ) (x n i : ℕ) → i < n → p i ≡ true → smallest_below p f x n ≤ f i
-unfolding smallest_below if◌then◌else◌
+unfolding smallest_below if◌then◌otherwise◌
 smallest_at p f x zero i h e = absurd (omega arith)
 smallest_at p f x (suc n) i h e =
     elim (dec_lt i n) [
@@ -358,7 +358,7 @@ smallest_same p q f g x (suc n) a b = rw (smallest_same p q f g x n (λ i h. a i
 
 -- p holds of none
 pub smallest_none : (p : ℕ → Bool) (f : ℕ → ℕ) (x n : ℕ) → ((i : ℕ) → i < n → p i ≡ false) → smallest_below p f x n ≡ x
-unfolding smallest_below if◌then◌else◌
+unfolding smallest_below if◌then◌otherwise◌
 smallest_none p f x zero a = refl
 smallest_none p f x (suc n) a = rw (a n (omega arith)) (smallest_none p f x n (λ i h. a i (omega arith)))
 

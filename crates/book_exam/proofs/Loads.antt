@@ -6,7 +6,7 @@ use mathlib.Core.Bool.{Bool, true, ◌&&◌}
 use mathlib.Core.List.{List, [], ◌∷◌, map}
 use lib.Dec.{ltb}
 use borrow.Author.Tests.{ltb-true}
-use Rattle.base.specs.Choice.{if◌then◌else◌, every}
+use Rattle.base.specs.Choice.{if◌then◌otherwise◌, every}
 use Rattle.base.specs.Below.{all_below, any_below, count_below, sum_below, lowest_below}
 use Rattle.base.proofs.Choices.{and_left, and_right}
 use Rattle.kernel.specs.declared.control.TaskId.{TaskId}
@@ -56,9 +56,9 @@ each (c ∷ cs) e =
     rw (quick_is (after c) (id 0) here, each cs (and_right (fits (after c) (id 0)) (all_fit cs) e)) refl
 
 pub load_exam : LoadExam
-unfolding fits all_fit quick quick_given after charged if◌then◌else◌ every all_below count_below sum_below lowest_below region_fits arena_fits slot_of whole fresh_kernel
+unfolding fits all_fit quick quick_given after charged if◌then◌otherwise◌ every all_below count_below sum_below lowest_below region_fits arena_fits slot_of whole fresh_kernel
 load_exam = each cases refl ∙ refl
 
 pub load_odd : LoadOdd
-unfolding fits quick charged in_two_slots if◌then◌else◌ every all_below any_below count_below sum_below lowest_below holds_task region_fits arena_fits slot_of whole fresh_kernel
+unfolding fits quick charged in_two_slots if◌then◌otherwise◌ every all_below any_below count_below sum_below lowest_below holds_task region_fits arena_fits slot_of whole fresh_kernel
 load_odd = (quick_is in_two_slots (id 5) refl ∙ refl, quick_is (charged 3 (1 ∷ 2 ∷ []) 0) (id 0) refl ∙ refl)

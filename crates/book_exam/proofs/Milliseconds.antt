@@ -5,7 +5,7 @@ use mathlib.Core.Bool.{Bool, true, ◌&&◌}
 use mathlib.Core.List.{List, [], ◌∷◌, map}
 use lib.Dec.{eqb, ltb}
 use borrow.Author.Tests.{eqb-true, ltb-true, ltb-false}
-use Rattle.base.specs.Choice.{if◌then◌else◌}
+use Rattle.base.specs.Choice.{if◌then◌otherwise◌}
 use Rattle.base.proofs.Choices.{either, and_left, and_right}
 use Rattle.kernel.specs.declared.scheduler.Answer.{Answer}
 use Rattle.kernel.specs.declared.scheduler.Value.TheVariants.{Milliseconds}
@@ -30,7 +30,7 @@ quick : Case → Answer
 quick c =
     let k = fresh_kernel c.hz 4096 in
     let q = 1000 * c.ticks / c.hz in
-    if ltb 4294967295 q then refused 23 k else accepted (Milliseconds q) k
+    if ltb 4294967295 q then refused 23 k otherwise accepted (Milliseconds q) k
 
 quick_is : (c : Case) → fits c.hz ≡ true → answer c ≡ quick c
 unfolding quick fresh_kernel
@@ -51,5 +51,5 @@ each [] e = refl
 each (c ∷ cs) e = rw (quick_is c (and_left (fits c.hz) (all_fit cs) e), each cs (and_right (fits c.hz) (all_fit cs) e)) refl
 
 pub milliseconds_exam : MillisecondsExam
-unfolding fits all_fit quick quick_given init_number arena_fits fresh_kernel if◌then◌else◌ value_number
+unfolding fits all_fit quick quick_given init_number arena_fits fresh_kernel if◌then◌otherwise◌ value_number
 milliseconds_exam = each cases refl ∙ refl

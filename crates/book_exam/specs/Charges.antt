@@ -1,6 +1,6 @@
 -- Charges (02, W-206) in kernels that no list from fresh gets to: what the definitions make of kernels given here, and what was worked out by hand.
 use Rattle.std.specs.Prelude.{ℕ, ◌-◌, ◌^◌, ◌≡◌, refl, true, false, List, [], ◌∷◌, ◌++◌, length, replicate}
-use Rattle.base.specs.Choice.{if◌then◌else◌, every}
+use Rattle.base.specs.Choice.{if◌then◌otherwise◌, every}
 use Rattle.base.specs.Below.{all_below, any_below, count_below, sum_below, lowest_below}
 use Rattle.kernel.specs.declared.control.TaskState.TheVariants.{Terminated}
 use Rattle.kernel.specs.declared.scheduler.Kernel.{Kernel}
@@ -36,7 +36,7 @@ pub whole_by_the_sum :
     ∷ whole (charged (2 ^ 64 - 1) (2 ^ 63 ∷ 2 ^ 63 ∷ []) 0) ∷ whole (charged 5 ((2 ^ 64 - 1) ∷ 6 ∷ []) 0)
     ∷ whole (charged (2 ^ 64 - 1) [] (2 ^ 64 - 1)) ∷ whole (charged (2 ^ 64 - 1) (1 ∷ []) (2 ^ 64 - 1)) ∷ []
     ≡ true ∷ false ∷ false ∷ false ∷ false ∷ true ∷ false ∷ []
-unfolding charged if◌then◌else◌ every all_below any_below count_below sum_below lowest_below region_fits arena_fits whole fresh_kernel
+unfolding charged if◌then◌otherwise◌ every all_below any_below count_below sum_below lowest_below region_fits arena_fits whole fresh_kernel
 whole_by_the_sum = refl
 
 -- reading 41: an empty slot with a charge loses it at add, and the sum falls
@@ -46,5 +46,5 @@ pub moved :
     ∷ seen (reap (record { 0 = 1 })) (ended (charged (2 ^ 64 - 1) (0 ∷ 7 ∷ []) (2 ^ 64 - 8)))
     ∷ seen reap_one (ended (charged (2 ^ 64 - 1) (0 ∷ 7 ∷ []) (2 ^ 64 - 8))) ∷ []
     ≡ (0 ∷ 1 ∷ 0 ∷ 5 ∷ []) ∷ (0 ∷ 0 ∷ 0 ∷ (2 ^ 64 - 1) ∷ []) ∷ (0 ∷ 0 ∷ 0 ∷ (2 ^ 64 - 1) ∷ []) ∷ []
-unfolding charged ended seen if◌then◌else◌ every all_below any_below count_below sum_below lowest_below holds_task region_fits regions_overlap arena_fits whole fresh_kernel slot_of reapable_slot Scheduler.reap_one lowest_empty overlaps_present Scheduler.add number value effect step
+unfolding charged ended seen if◌then◌otherwise◌ every all_below any_below count_below sum_below lowest_below holds_task region_fits regions_overlap arena_fits whole fresh_kernel slot_of reapable_slot Scheduler.reap_one lowest_empty overlaps_present Scheduler.add number value effect step
 moved = refl

@@ -1,6 +1,6 @@
 -- The exam's marked cases: what the definitions answer is what the key says, by one theorem over the table of them.
 use Rattle.std.specs.Prelude.{ℕ, zero, suc, ◌+◌, ◌≡◌, refl, true, List, [], ◌∷◌, map, set, replicate}
-use Rattle.base.specs.Choice.{if◌then◌else◌, every}
+use Rattle.base.specs.Choice.{if◌then◌otherwise◌, every}
 use Rattle.base.specs.Below.{all_below, any_below, count_below, sum_below, lowest_below}
 use Rattle.kernel.specs.declared.wait_queue.WaitQueue.{WaitQueue}
 use Rattle.kernel.specs.declared.scheduler.Kernel.{Kernel}
@@ -104,5 +104,5 @@ pub wanted : Case → List ℕ
 wanted c = c.right
 
 pub exam : map given cases ≡ map wanted cases
-unfolding given wanted cases answer idle ready states priorities running line after if◌then◌else◌ every all_below any_below count_below sum_below lowest_below holds_task region_fits position pushed enqueued arena_fits whole fresh_kernel is_best pick is_due is_limit_due woken visited walked clocked advanced Scheduler.sliced Scheduler.wants wants_switch Scheduler.tick Semaphore.acquire ms_to_ticks number value effect step value_number pick_bytes
+unfolding given wanted cases answer idle ready states priorities running line after if◌then◌otherwise◌ every all_below any_below count_below sum_below lowest_below holds_task region_fits position pushed enqueued arena_fits whole fresh_kernel is_best pick is_due is_limit_due woken visited walked clocked advanced Scheduler.sliced Scheduler.wants wants_switch Scheduler.tick Semaphore.acquire ms_to_ticks number value effect step value_number pick_bytes
 exam = refl

@@ -1,6 +1,6 @@
 -- Waits with a limit (02, W-202) that no list of the programs gets to: what the definitions make of kernels given here, and what was worked out by hand.
 use Rattle.std.specs.Prelude.{ℕ, ◌+◌, ◌-◌, ◌^◌, ◌≡◌, refl, true, List, [], ◌∷◌, ◌++◌, map, length, replicate}
-use Rattle.base.specs.Choice.{if◌then◌else◌, every}
+use Rattle.base.specs.Choice.{if◌then◌otherwise◌, every}
 use Rattle.base.specs.Below.{all_below, any_below, count_below, sum_below, lowest_below, tabulate}
 use Rattle.kernel.specs.declared.control.LimitObject.TheVariants.{AtSemaphore}
 use Rattle.kernel.specs.declared.control.TaskState.TheVariants.{Running, Blocked}
@@ -40,7 +40,7 @@ pub seen : ℕ → Kernel → List ℕ
 seen i k =
     let t = slot k i in
     let q = (semaphore k 0).waiters in
-    state_number t.state ∷ (if t.limit_passed then 1 else 0) ∷ t.limit_tick ∷ q.len ∷ (place q 0).0 ∷ (place q 1).0 ∷ (place q 2).0 ∷ []
+    state_number t.state ∷ (if t.limit_passed then 1 otherwise 0) ∷ t.limit_tick ∷ q.len ∷ (place q 0).0 ∷ (place q 1).0 ∷ (place q 2).0 ∷ []
 
 pub after : Call → Kernel → Kernel
 after c k = (step k c).kernel
@@ -51,19 +51,19 @@ after c k = (step k c).kernel
 -- one tick earlier nothing ends
 -- reading 26: a limit before tick_count is no reason to refuse, and ends with the next tick
 pub by_a_tick : (seen 1 (after tick (blocked (8 ∷ 1 ∷ 7 ∷ []) 10 9))) ∷ (seen 1 (after tick (blocked (8 ∷ 1 ∷ 7 ∷ []) 11 9))) ∷ (seen 1 (after tick (blocked (1 ∷ []) 5 9))) ∷ [] ≡ (0 ∷ 1 ∷ 0 ∷ 2 ∷ 8 ∷ 7 ∷ 0 ∷ []) ∷ (2 ∷ 0 ∷ 11 ∷ 3 ∷ 8 ∷ 1 ∷ 7 ∷ []) ∷ (0 ∷ 1 ∷ 0 ∷ 0 ∷ 0 ∷ 0 ∷ 0 ∷ []) ∷ []
-unfolding seen after blocked running idle_blocked line if◌then◌else◌ every all_below any_below count_below sum_below lowest_below tabulate holds_task region_fits position pushed enqueued place_without without removed arena_fits whole fresh_kernel is_best pick is_due is_limit_due woken visited walked clocked advanced Scheduler.sliced Scheduler.wants wants_switch Scheduler.tick Scheduler.start Semaphore.acquire_within number value effect step
+unfolding seen after blocked running idle_blocked line if◌then◌otherwise◌ every all_below any_below count_below sum_below lowest_below tabulate holds_task region_fits position pushed enqueued place_without without removed arena_fits whole fresh_kernel is_best pick is_due is_limit_due woken visited walked clocked advanced Scheduler.sliced Scheduler.wants wants_switch Scheduler.tick Scheduler.start Semaphore.acquire_within number value effect step
 by_a_tick = refl
 
 -- reading 25: an id that is not in that queue
 -- .. one that stands there twice, whose first place goes
 -- reading 24: a start that picks idle, Blocked since none is Ready, ends its limit; idle keeps its place
 pub of_odd_kernels : (seen 1 (after tick (blocked (8 ∷ 7 ∷ []) 10 9))) ∷ (seen 1 (after tick (blocked (1 ∷ 7 ∷ 1 ∷ []) 10 9))) ∷ (seen 0 (after start idle_blocked)) ∷ [] ≡ (0 ∷ 1 ∷ 0 ∷ 2 ∷ 8 ∷ 7 ∷ 0 ∷ []) ∷ (0 ∷ 1 ∷ 0 ∷ 2 ∷ 7 ∷ 1 ∷ 0 ∷ []) ∷ (1 ∷ 0 ∷ 0 ∷ 1 ∷ 0 ∷ 0 ∷ 0 ∷ []) ∷ []
-unfolding seen after blocked running idle_blocked line if◌then◌else◌ every all_below any_below count_below sum_below lowest_below tabulate holds_task region_fits position pushed enqueued place_without without removed arena_fits whole fresh_kernel is_best pick is_due is_limit_due woken visited walked clocked advanced Scheduler.sliced Scheduler.wants wants_switch Scheduler.tick Scheduler.start Semaphore.acquire_within number value effect step
+unfolding seen after blocked running idle_blocked line if◌then◌otherwise◌ every all_below any_below count_below sum_below lowest_below tabulate holds_task region_fits position pushed enqueued place_without without removed arena_fits whole fresh_kernel is_best pick is_due is_limit_due woken visited walked clocked advanced Scheduler.sliced Scheduler.wants wants_switch Scheduler.tick Scheduler.start Semaphore.acquire_within number value effect step
 of_odd_kernels = refl
 
 -- held at 2^64 - 1
 -- ended by the last tick
 -- one that began there is ended by no tick: tick is refused
 pub at_the_last_tick : (seen 1 (after (acquire_within 0 5) (running [] (2 ^ 64 - 3)))) ∷ (seen 1 (after tick (blocked (1 ∷ []) (2 ^ 64 - 1) (2 ^ 64 - 2)))) ∷ (seen 1 (after tick (blocked (1 ∷ []) (2 ^ 64 - 1) (2 ^ 64 - 1)))) ∷ [] ≡ (2 ∷ 0 ∷ (2 ^ 64 - 1) ∷ 1 ∷ 1 ∷ 0 ∷ 0 ∷ []) ∷ (0 ∷ 1 ∷ 0 ∷ 0 ∷ 0 ∷ 0 ∷ 0 ∷ []) ∷ (2 ∷ 0 ∷ (2 ^ 64 - 1) ∷ 1 ∷ 1 ∷ 0 ∷ 0 ∷ []) ∷ []
-unfolding seen after blocked running idle_blocked line if◌then◌else◌ every all_below any_below count_below sum_below lowest_below tabulate holds_task region_fits position pushed enqueued place_without without removed arena_fits whole fresh_kernel is_best pick is_due is_limit_due woken visited walked clocked advanced Scheduler.sliced Scheduler.wants wants_switch Scheduler.tick Scheduler.start Semaphore.acquire_within number value effect step
+unfolding seen after blocked running idle_blocked line if◌then◌otherwise◌ every all_below any_below count_below sum_below lowest_below tabulate holds_task region_fits position pushed enqueued place_without without removed arena_fits whole fresh_kernel is_best pick is_due is_limit_due woken visited walked clocked advanced Scheduler.sliced Scheduler.wants wants_switch Scheduler.tick Scheduler.start Semaphore.acquire_within number value effect step
 at_the_last_tick = refl

@@ -1,7 +1,7 @@
 -- Odd kernels, whole ones that no list from fresh gets to: what the definitions make of those given here, and what was
 -- worked out by hand from readings 14, 15, 17, 18 and 19 of 01 and 39 of 02. tests/cases/odd has lists from the same.
 use Rattle.std.specs.Prelude.{ℕ, ◌+◌, ◌-◌, ◌*◌, ◌≡◌, refl, Bool, true, false, List, [], ◌∷◌, ◌++◌, map, ℤ, pos, negsuc, length, replicate}
-use Rattle.base.specs.Choice.{if◌then◌else◌, every}
+use Rattle.base.specs.Choice.{if◌then◌otherwise◌, every}
 use Rattle.base.specs.Below.{all_below, any_below, count_below, sum_below, lowest_below, smallest_below, tabulate}
 use Rattle.kernel.specs.declared.control.TaskId.{TaskId}
 use Rattle.kernel.specs.declared.control.OptionTaskId.{OptionTaskId}
@@ -194,7 +194,7 @@ seen_at m c k =
     let t = slot (after c k) 1 in
     let x = mutex (after c k) m in
     answer c k
-    ++ (state_number t.state ∷ t.owned_mutex_count ∷ (if x.locked then 1 else 0) ∷ x.waiters.len ∷ [])
+    ++ (state_number t.state ∷ t.owned_mutex_count ∷ (if x.locked then 1 otherwise 0) ∷ x.waiters.len ∷ [])
 
 -- a call's answer; after it the owned counts of slots 1 and 2, and the number of a tick
 pub counted : Call → Kernel → List ℕ
@@ -231,7 +231,7 @@ ranks k = tabulate (rank k) 4
 computed : Unit {0}
 unfolding owner_fields count_alone four_owned with_slice both_blocked current_twice ended_twice empty_slot idle_twice filled_behind
     owner_twice waiter_twice own_mutex seen seen_at counted ticked reaped places ranks
-    if◌then◌else◌ every all_below any_below count_below sum_below lowest_below smallest_below tabulate
+    if◌then◌otherwise◌ every all_below any_below count_below sum_below lowest_below smallest_below tabulate
     holds_task unblocked region_fits arena_fits whole fresh_kernel slot_of at_id reapable_slot Scheduler.reap_one
     position pushed enqueued place_without without removed popped drop_heads link chain leads_to rank
     is_due is_limit_due woken visited walked clocked advanced wants_switch

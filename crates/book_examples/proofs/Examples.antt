@@ -2,7 +2,7 @@
 use mathlib.Core.Path.{◌≡◌, refl, subst}
 use mathlib.Core.List.{List, [], ◌∷◌, ◌++◌}
 use lib.ListN.{take, drop}
-use Rattle.base.specs.Choice.{if◌then◌else◌, every}
+use Rattle.base.specs.Choice.{if◌then◌otherwise◌, every}
 use Rattle.base.specs.Below.{all_below, any_below, count_below, sum_below, lowest_below, smallest_below, tabulate}
 use Rattle.kernel.specs.declared.scheduler.Kernel.{Kernel}
 use Rattle.kernel.specs.Control.{holds_task, unblocked, region_fits, regions_overlap, painted, stack_guard_ok, sp_in_range}
@@ -21,7 +21,7 @@ use Rattle.book_examples.proofs.Checked.{stretch_is, unchanging_is, peer_is, pee
 
 -- what the claims compute with: to unfold this is to unfold all that its line names
 unfoldable pub computed : Unit {0}
-unfolding arena unpainted painted mixed mixed_calls two_tasks idle_round late_switch smaller_number first_sleeps not_neighbours other_sleeps by_rank smaller_rank first_changes other_changes other_priority slot_reused outcome outcome_of is_start step number value effect value_number init init_number fresh_kernel whole arena_fits if◌then◌else◌ every all_below any_below count_below lowest_below smallest_below tabulate holds_task link chain leads_to rank position pushed enqueued at_id place_without without popped Mutex.lock Mutex.unlock unblocked region_fits regions_overlap stack_guard_ok sp_in_range slot_of is_best pick lowest_empty overlaps_present is_due is_limit_due woken visited walked clocked advanced sliced wants wants_switch context_saved reloaded Scheduler.add Scheduler.start Scheduler.tick Scheduler.switch Scheduler.exit sum_below
+unfolding arena unpainted painted mixed mixed_calls two_tasks idle_round late_switch smaller_number first_sleeps not_neighbours other_sleeps by_rank smaller_rank first_changes other_changes other_priority slot_reused outcome outcome_of is_start step number value effect value_number init init_number fresh_kernel whole arena_fits if◌then◌otherwise◌ every all_below any_below count_below lowest_below smallest_below tabulate holds_task link chain leads_to rank position pushed enqueued at_id place_without without popped Mutex.lock Mutex.unlock unblocked region_fits regions_overlap stack_guard_ok sp_in_range slot_of is_best pick lowest_empty overlaps_present is_due is_limit_due woken visited walked clocked advanced sliced wants wants_switch context_saved reloaded Scheduler.add Scheduler.start Scheduler.tick Scheduler.switch Scheduler.exit sum_below
 computed = tt
 
 pub met : Met

@@ -1,7 +1,7 @@
 -- Computed lists: one that meets every premise of the third sentence, lists in which its bounds are met, and for each condition on what happens between, and on a peer, a list that meets all others, in which
 -- the claim fails.
 use Rattle.std.specs.Prelude.{◌≡◌, true, false, List, [], ◌∷◌, ◌++◌, map, ℕ, zero, suc, ◌+◌, ◌*◌, eqb, take, drop, replicate}
-use Rattle.base.specs.Choice.{if◌then◌else◌, every}
+use Rattle.base.specs.Choice.{if◌then◌otherwise◌, every}
 use Rattle.kernel.specs.declared.control.TaskId.{TaskId}
 use Rattle.kernel.specs.declared.control.StackRegion.{StackRegion}
 use Rattle.kernel.specs.declared.scheduler.Kernel.{Kernel}
@@ -154,12 +154,12 @@ pub record Fives : Type 0 where
 -- 75 is met, by idle
 pub record IdleRound : Type 0 where
   pub idle_stretch : every (conditions idle_round 105 91 0 (id 0)) ≡ true
-  pub seventy_five : sum_below (λ j. if eqb j 0 then 0 else ticks_of idle_round 105 91 j) 16 ≡ 75
+  pub seventy_five : sum_below (λ j. if eqb j 0 then 0 otherwise ticks_of idle_round 105 91 j) 16 ≡ 75
 
 -- 71 is met, by a task that is not idle
 pub record TaskRound : Type 0 where
   pub task_stretch : every (conditions idle_round 15 91 1 (id 1)) ≡ true
-  pub seventy_one : sum_below (λ j. if eqb j 1 then 0 else ticks_of idle_round 15 91 j) 16 ≡ 71
+  pub seventy_one : sum_below (λ j. if eqb j 1 then 0 otherwise ticks_of idle_round 15 91 j) 16 ≡ 71
 
 pub record Needed : Type 0 where
   -- all but "followed": a rise of 6

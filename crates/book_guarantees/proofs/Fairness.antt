@@ -9,7 +9,7 @@ use native.Mathlib.Decide.{dec_lt, ℕ_discrete}
 use native.Mathlib.Omega.{arith}
 use lib.Dec.{eqb}
 use borrow.Author.Tests.{eqb-true, eqb-false}
-use Rattle.base.specs.Choice.{if◌then◌else◌}
+use Rattle.base.specs.Choice.{if◌then◌otherwise◌}
 use Rattle.base.proofs.Choices.{either}
 use Rattle.kernel.specs.declared.control.TaskControl.{TaskControl}
 use Rattle.kernel.specs.declared.control.TaskId.{TaskId}
@@ -38,7 +38,7 @@ most (suc j) = 5
 
 -- how many ticks a task may have until one of them wants a switch
 unfoldable pub allowance : TaskControl → ℕ
-allowance t = if runs t then max 1 t.remaining_slice else 1
+allowance t = if runs t then max 1 t.remaining_slice otherwise 1
 
 abbrev pub budget : Kernel → ℕ
 budget k = allowance (current_task k)

@@ -12,7 +12,7 @@ use lib.Dec.{eqb}
 use lib.ListN.{get_or, set, length}
 use lib.Seq.{get_or-set_same, get_or-set_other}
 use borrow.Author.Tests.{eqb-true, eqb-false}
-use Rattle.base.specs.Choice.{if◌then◌else◌}
+use Rattle.base.specs.Choice.{if◌then◌otherwise◌}
 use Rattle.base.specs.Below.{any_below, sum_below}
 use Rattle.base.proofs.Choices.{and_right, either, taken, left}
 use Rattle.base.proofs.Loops.{set_each, sum_but}
@@ -131,8 +131,8 @@ unfolding woken
 woken_kept now t = either (TaskKept plain t) (is_limit_due now t) (λ _. task_kept passed) (λ _. either (TaskKept plain t) (is_due now t) (λ _. task_kept (state Ready refl)) (λ _. task_kept same))
 
 -- a started kernel's tick that wants no switch
-none_wanted : (s c w d : Bool) → s ≡ true → (if not s then false else if not c then true else (w || d)) ≡ false → (c ≡ true) × (d ≡ false)
-unfolding if◌then◌else◌
+none_wanted : (s c w d : Bool) → s ≡ true → (if not s then false otherwise if not c then true otherwise (w || d)) ≡ false → (c ≡ true) × (d ≡ false)
+unfolding if◌then◌otherwise◌
 none_wanted true true true d o e = clash refl e
 none_wanted true true false d o e = (refl, e)
 none_wanted true false w d o e = clash refl e
@@ -153,8 +153,8 @@ spent_ahead : {now : ℕ} (t : TaskControl) → LimitAhead now t → LimitAhead 
 spent_ahead {now} t h = either (LimitAhead now) (eqb (t.remaining_slice - 1) 0) (λ _. h) (λ _. h)
 
 -- two choices by one test
-both : {A B : Type 0} (P : A → B → Type 0) (b : Bool) {x y : A} {u v : B} → P x u → P y v → P (if b then x else y) (if b then u else v)
-unfolding if◌then◌else◌
+both : {A B : Type 0} (P : A → B → Type 0) (b : Bool) {x y : A} {u v : B} → P x u → P y v → P (if b then x otherwise y) (if b then u otherwise v)
+unfolding if◌then◌otherwise◌
 both P true p q = p
 both P false p q = q
 
@@ -195,19 +195,19 @@ module _ (k : Kernel) where
       (λ j e. let r = i.running j (each_kept (λ t u. runs u ≡ true → runs t ≡ true) (λ _ e. e) (λ _ _ _ p q e. p (q e)) slot_runs cs j e) in (r.0 ∙ sym still.0, still.1 ∙ r.1))
 
   -- the sum of all charges and the retired one
-  pub tick_sum : Invariant k → charge_sum (Scheduler.tick k) ≡ charge_sum k + (if k.started then 1 else 0)
+  pub tick_sum : Invariant k → charge_sum (Scheduler.tick k) ≡ charge_sum k + (if k.started then 1 otherwise 0)
   tick_sum i =
       let c = current k in
       let n = charge k c + 1 in
       let inside = i.account.sound.is.current_slot in
       let raised = sum_but (charge k) (λ j. get_or (set k.charges c n) j 0) 16 c inside (λ j e. get_or-set_other k.charges c j n 0 e) in
       let here = get_or-set_same k.charges c n 0 (omega (arith, i.account.slots, inside)) in
-      let all : sum_below (λ j. get_or (charged k) j 0) 16 ≡ sum_below (charge k) 16 + (if k.started then 1 else 0) =
+      let all : sum_below (λ j. get_or (charged k) j 0) 16 ≡ sum_below (charge k) 16 + (if k.started then 1 otherwise 0) =
       both (λ l m. sum_below (λ j. get_or l j 0) 16 ≡ sum_below (charge k) 16 + m) k.started (omega (arith, raised, here)) (omega arith) in
       omega (arith, ap (λ (l : List ℕ). sum_below (λ j. get_or l j 0) 16) still.2, still.3, all)
 
   module _ (i : Invariant k) (on : k.started ≡ true) where
-    pub tick_account : (j : ℕ) → charge (Scheduler.tick k) j ≡ charge k j + (if eqb (current k) j then 1 else 0)
+    pub tick_account : (j : ℕ) → charge (Scheduler.tick k) j ≡ charge k j + (if eqb (current k) j then 1 otherwise 0)
     tick_account j =
         let c = current k in
         let n = charge k c + 1 in

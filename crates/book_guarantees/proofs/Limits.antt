@@ -10,7 +10,7 @@ use lib.Dec.{eqb}
 use lib.ListN.{length, get_or, set, length-set, get_or-eq_default}
 use lib.Seq.{get_or-set_same}
 use borrow.Author.Tests.{eqb-true, eqb-false, eq-eqb, ltb-true, le-leb, lt-leb}
-use Rattle.base.specs.Choice.{if◌then◌else◌}
+use Rattle.base.specs.Choice.{if◌then◌otherwise◌}
 use Rattle.base.proofs.Choices.{and_left, and_right, either}
 use Rattle.base.proofs.Loops.{set_each}
 use Rattle.kernel.specs.declared.control.TaskId.{TaskId}
@@ -194,11 +194,11 @@ kept k r i l =
 -- ---- a tick
 
 waits_due : (now : ℕ) (t : TaskControl) → t.occupied ≡ true → has_limit t ≡ true → t.limit_tick ≤ now → woken now t ≡ expired t
-unfolding woken is_limit_due if◌then◌else◌
+unfolding woken is_limit_due if◌then◌otherwise◌
 waits_due now t o l d = rw (o, l, le-leb t.limit_tick now d)
 
 waits_on : (now : ℕ) (t : TaskControl) → t.occupied ≡ true → has_limit t ≡ true → t.state ≡ Blocked → now < t.limit_tick → woken now t ≡ t
-unfolding woken is_limit_due is_due holds_task if◌then◌else◌
+unfolding woken is_limit_due is_due holds_task if◌then◌otherwise◌
 waits_on now t o l b d = rw (o, l, lt-leb t.limit_tick now d, b)
 
 -- an entry that a list has after k
@@ -211,7 +211,7 @@ unfolding value effect
 ticks P k z p = of_step P k tick (accepts k tick z) p
 
 ticked_ahead : (k : Kernel) → Reached k → (step k tick).number ≡ 0 → (i : ℕ) → Limited (step k tick).kernel i → (step k tick).kernel.tick_count < (slot (step k tick).kernel i).limit_tick
-unfolding outcome outcome_of if◌then◌else◌
+unfolding outcome outcome_of if◌then◌otherwise◌
 ticked_ahead k r z i l =
     let was = ticks (λ (a : Answer). outcome (record { call = tick; answer = a }) ≡ ticked (eqb (value_number (YesNo (wants_switch k))) 1)) k z refl in
     (fact (record { call = tick; answer = step k tick }) r refl).ahead _ was i (sixteen (called tick r) i l.present) l.present l.limit
@@ -319,7 +319,7 @@ current_keeps k o n x w tasks now up l =
     (record { limited = record { present = rw (here, was) w.is.running; limit = rw here l }; until = rw (here, up) }, rw here)
 
 -- a call that tells whether it need not block, and where it must begins a limit on the kernel x
-blocks_within : (k : Kernel) → Reached k → (n : ℕ) (o : LimitObject) (c : Call) (free : Bool) (got x : Kernel) → number k c ≡ 0 → free ≡ false → effect k c ≡ (if free then got else limited o n x) → 0 < n → x.tasks ≡ (Scheduler.block k).tasks → current x ≡ current k → x.tick_count ≡ k.tick_count → is_limit o ≡ true
+blocks_within : (k : Kernel) → Reached k → (n : ℕ) (o : LimitObject) (c : Call) (free : Bool) (got x : Kernel) → number k c ≡ 0 → free ≡ false → effect k c ≡ (if free then got otherwise limited o n x) → 0 < n → x.tasks ≡ (Scheduler.block k).tasks → current x ≡ current k → x.tick_count ≡ k.tick_count → is_limit o ≡ true
     → EndsWithin (step k c).kernel (current k) n o (min (k.tick_count + n) last_tick)
 blocks_within k r n o c free got x e shut is p tasks now up l =
     of_step (λ (a : Answer). Reached a.kernel → EndsWithin a.kernel (current k) n o (min (k.tick_count + n) last_tick)) k c e

@@ -8,7 +8,7 @@ use mathlib.Core.Path.{◌≡◌, refl, sym, ap, subst, ◌∙◌}
 use mathlib.Core.Bool.{Bool, true, false, false≢true}
 use lib.ListN.{length, get_or-eq_default}
 use borrow.Author.Tests.{eqb-true, eq-eqb, ltb-false}
-use Rattle.base.specs.Choice.{if◌then◌else◌}
+use Rattle.base.specs.Choice.{if◌then◌otherwise◌}
 use Rattle.base.specs.Below.{sum_below}
 use Rattle.base.proofs.Choices.{not_yes, and_left, and_right}
 use Rattle.base.proofs.Loops.{lowest_only, sum_none, sum_but}
@@ -84,21 +84,21 @@ module _ (k : Kernel) (a : Account k) where
     unfolding effect
     answers i p = sym (step_accepted k (load (slot k i).id) 0 _ (load_accepted k _ is (rw (found i p) (is_slot i p)) t) refl refl)
 
-    share_each : (i : ℕ) (b : Bool) → is_occupied k i ≡ b → (if b then share k (charge_sum k) i else 0) * charge_sum k ≤ 1000 * (if b then charge k i else 0)
-    unfolding if◌then◌else◌
+    share_each : (i : ℕ) (b : Bool) → is_occupied k i ≡ b → (if b then share k (charge_sum k) i otherwise 0) * charge_sum k ≤ 1000 * (if b then charge k i otherwise 0)
+    unfolding if◌then◌otherwise◌
     share_each i true e = let m = (pair i e).equation in omega (arith, m)
     share_each i false e = omega arith
 
     shares : of_present k (share k (charge_sum k)) * charge_sum k ≤ 1000 * occupied_charges k
-    shares = sum_within _ (λ i. if is_occupied k i then charge k i else 0) (charge_sum k) 16 (λ i _. share_each i (is_occupied k i) refl)
+    shares = sum_within _ (λ i. if is_occupied k i then charge k i otherwise 0) (charge_sum k) 16 (λ i _. share_each i (is_occupied k i) refl)
 
-    accounts_each : (i : ℕ) (b : Bool) → is_occupied k i ≡ b → 1000 * (if b then charge k i else 0) ≡ (if b then share k (charge_sum k) i * charge_sum k + remainder k (charge_sum k) i else 0)
-    unfolding if◌then◌else◌
+    accounts_each : (i : ℕ) (b : Bool) → is_occupied k i ≡ b → 1000 * (if b then charge k i otherwise 0) ≡ (if b then share k (charge_sum k) i * charge_sum k + remainder k (charge_sum k) i otherwise 0)
+    unfolding if◌then◌otherwise◌
     accounts_each i true e = (pair i e).equation
     accounts_each i false e = refl
 
     accounted : 1000 * occupied_charges k ≡ of_present k (λ i. share k (charge_sum k) i * charge_sum k + remainder k (charge_sum k) i)
-    accounted = sum_thousand _ (λ i. if is_occupied k i then share k (charge_sum k) i * charge_sum k + remainder k (charge_sum k) i else 0) 16 (λ i _. accounts_each i (is_occupied k i) refl)
+    accounted = sum_thousand _ (λ i. if is_occupied k i then share k (charge_sum k) i * charge_sum k + remainder k (charge_sum k) i otherwise 0) 16 (λ i _. accounts_each i (is_occupied k i) refl)
 
     only_one : (i : ℕ) → Present k i → Alone k i → charge k i ≡ charge_sum k
     only_one i p o =

@@ -9,7 +9,7 @@ use lib.Dec.{ltb}
 use lib.ListN.{length, get_or, set, replicate, length-set}
 use lib.Seq.{get_or-set_same, get_or-set_other}
 use borrow.Author.Tests.{ltb-true, lt-ltb, ltb-false, leb-false, lt-leb, eqb-true}
-use Rattle.base.specs.Choice.{if◌then◌else◌}
+use Rattle.base.specs.Choice.{if◌then◌otherwise◌}
 use Rattle.base.proofs.Choices.{not_yes, either, taken, left as left-arm, through, and_right, same_test}
 use Rattle.base.proofs.Loops.{tabulate_length, tabulate_at, set_each, lowest_le, lowest_before, lowest_only}
 use Rattle.kernel.specs.declared.control.TaskId.{TaskId}
@@ -71,7 +71,7 @@ enqueued_fits q a f =
 
 -- one that is taken out of place i: what then stands at place j
 skip : ℕ → ℕ → ℕ
-skip i j = if ltb j i then j else j + 1
+skip i j = if ltb j i then j otherwise j + 1
 
 skips : (i j : ℕ) → ((j < i) × (skip i j ≡ j)) ⊎ ((i ≤ j) × (skip i j ≡ j + 1))
 unfolding skip

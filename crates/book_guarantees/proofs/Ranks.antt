@@ -8,7 +8,7 @@ use lib.Dec.{eqb, ltb}
 use lib.ListN.{get_or}
 use lib.Seq.{get_or-set_other}
 use borrow.Author.Tests.{ltb-true, le-ltb, eqb-true, eqb-false}
-use Rattle.base.specs.Choice.{if◌then◌else◌}
+use Rattle.base.specs.Choice.{if◌then◌otherwise◌}
 use Rattle.base.specs.Below.{tabulate}
 use Rattle.base.proofs.Choices.{and_right, either}
 use Rattle.base.proofs.Loops.{any_false, lowest_none, smallest_at, smallest_is, tabulate_length, tabulate_at}
@@ -61,8 +61,8 @@ byte_le : (k : Kernel) (i : ℕ) → state_byte k i ≤ 6
 byte_le k i = either (λ n. n ≤ 6) (slot k i).occupied (λ _. state_le (slot k i).state) (λ _. omega arith)
 
 -- 6 is not Ready
-occupied_ready : (b : Bool) (n : ℕ) → eqb (if b then n else 6) 0 ≡ (b && eqb n 0)
-unfolding if◌then◌else◌
+occupied_ready : (b : Bool) (n : ℕ) → eqb (if b then n otherwise 6) 0 ≡ (b && eqb n 0)
+unfolding if◌then◌otherwise◌
 occupied_ready true n = refl
 occupied_ready false n = refl
 
@@ -73,7 +73,7 @@ byte_ready k i = occupied_ready (slot k i).occupied (state_number (slot k i).sta
 -- on bytes that say who is Ready, and ranks
 pick_bytes_lem : (states ranks ranks' : ℕ → ℕ) (ready : ℕ → Bool) (c : ℕ) → c < 16 → ((i : ℕ) → i < 16 → states i ≤ 6) → ((i : ℕ) → i < 16 → eqb (states i) 0 ≡ ready i) → ((i : ℕ) → ranks i ≡ ranks' i)
     → pick_bytes (tabulate states 16) (tabulate ranks 16) c ≡ pick ready ranks' c
-unfolding pick_bytes if◌then◌else◌
+unfolding pick_bytes if◌then◌otherwise◌
 pick_bytes_lem states ranks ranks' ready c h few is same =
     let at : (i : ℕ) → i < 16 → get_or (tabulate states 16) i 0 ≡ states i = λ i l. tabulate_at states 0 16 i l in
     rw (tabulate_length states 16, tabulate_length ranks 16, any_false (λ i. ltb 6 (get_or (tabulate states 16) i 0)) 16 (λ i l. rw (at i l) (le-ltb 6 (states i) (few i l))), le-ltb 15 c (omega arith))
@@ -83,19 +83,19 @@ exported : (k : Kernel) → current k < 16 → pick_bytes (state_bytes k) (rank_
 exported k h = pick_bytes_lem (state_byte k) (rank k) (rank k) (is_ready k) (current k) h (λ i _. byte_le k i) (λ i _. byte_ready k i) (λ _. refl)
 
 -- a Running current given as Ready is what switch makes of it
-saved_ready : (sp : ℕ) (t : TaskControl) → t.occupied ≡ true → eqb (if in_state Running t then 0 else if t.occupied then state_number t.state else 6) 0 ≡ holds_task Ready (context_saved sp t)
-unfolding context_saved holds_task if◌then◌else◌
+saved_ready : (sp : ℕ) (t : TaskControl) → t.occupied ≡ true → eqb (if in_state Running t then 0 otherwise if t.occupied then state_number t.state otherwise 6) 0 ≡ holds_task Ready (context_saved sp t)
+unfolding context_saved holds_task if◌then◌otherwise◌
 saved_ready sp t o = go (in_state Running t)
   where
-    go : (b : Bool) → eqb (if b then 0 else if t.occupied then state_number t.state else 6) 0 ≡ holds_task Ready (if b then entered Ready (with_sp sp t) else with_sp sp t)
+    go : (b : Bool) → eqb (if b then 0 otherwise if t.occupied then state_number t.state otherwise 6) 0 ≡ holds_task Ready (if b then entered Ready (with_sp sp t) otherwise with_sp sp t)
     go true = sym (ap (λ (x : Bool). x && true) o)
     go false = occupied_ready t.occupied (state_number t.state)
 
-switch_ready : (k : Kernel) → Whole k → (sp i : ℕ) → eqb (if eqb i (current k) && in_state Running (slot k i) then 0 else state_byte k i) 0 ≡ is_ready (save_context sp k) i
-unfolding if◌then◌else◌
+switch_ready : (k : Kernel) → Whole k → (sp i : ℕ) → eqb (if eqb i (current k) && in_state Running (slot k i) then 0 otherwise state_byte k i) 0 ≡ is_ready (save_context sp k) i
+unfolding if◌then◌otherwise◌
 switch_ready k w sp i = go (eqb i (current k)) refl
   where
-    go : (b : Bool) → eqb i (current k) ≡ b → eqb (if b && in_state Running (slot k i) then 0 else state_byte k i) 0 ≡ is_ready (save_context sp k) i
+    go : (b : Bool) → eqb i (current k) ≡ b → eqb (if b && in_state Running (slot k i) then 0 otherwise state_byte k i) 0 ≡ is_ready (save_context sp k) i
     go true e = rw (eqb-true i (current k) e, changed_here k (current k) (context_saved sp) w.running) (saved_ready sp (current_task k) w.running)
     go false e = rw (get_or-set_other k.tasks (current k) i (context_saved sp (current_task k)) blank_slot (eqb-false i (current k) e)) (byte_ready k i)
 

@@ -9,7 +9,7 @@ use lib.Dec.{eqb}
 use lib.ListN.{length}
 use lib.Seq.{get_or-set_same, get_or-set_other}
 use borrow.Author.Tests.{leb-true, le-leb, ltb-true}
-use Rattle.base.specs.Choice.{if◌then◌else◌}
+use Rattle.base.specs.Choice.{if◌then◌otherwise◌}
 use Rattle.base.proofs.Choices.{not_yes, either, left as left-arm, and_left, and_right}
 use Rattle.base.proofs.Loops.{any_some, set_each}
 use Rattle.kernel.specs.declared.control.TaskId.{TaskId}
@@ -60,7 +60,7 @@ unfolding is_due holds_task
 sleeper_due now t o s d = rw (o, s, le-leb t.wake_tick now d)
 
 pub woken_sleeper : (now : ℕ) (t : TaskControl) → is_limit_due now t ≡ false → is_due now t ≡ true → woken now t ≡ entered Ready t
-unfolding woken if◌then◌else◌
+unfolding woken if◌then◌otherwise◌
 woken_sleeper now t l d = rw (l, d)
 
 -- the mark of a task without a limit
@@ -178,7 +178,7 @@ module _ (k : Kernel) (w : Whole k) (ss : length k.semaphores ≡ 4) (es : lengt
   }
 
   visit : (n : ℕ) → n < 16 → (x : Kernel) → length x.semaphores ≡ 4 → length x.events ≡ 4 → Left n (queue_of o x)
-      → Left (suc n) (queue_of o (if is_limit_due now (slot k n) then unqueued (slot k n).limit_object (slot k n).id x else x))
+      → Left (suc n) (queue_of o (if is_limit_due now (slot k n) then unqueued (slot k n).limit_object (slot k n).id x otherwise x))
   visit n h x xs xe l =
       either (λ (y : Kernel). Left (suc n) (queue_of o y)) (is_limit_due now (slot k n))
       (λ d.
@@ -199,7 +199,7 @@ module _ (k : Kernel) (w : Whole k) (ss : length k.semaphores ≡ 4) (es : lengt
       let x = walked now n k in
       let b = walked_beside now n k in
       let same : slot x n ≡ slot k n = walked_after now n k n (omega arith) in
-      let y = if is_limit_due now (slot x n) then unqueued (slot x n).limit_object (slot x n).id x else x in
+      let y = if is_limit_due now (slot x n) then unqueued (slot x n).limit_object (slot x n).id x otherwise x in
       subst (λ (q : WaitQueue). Left (suc n) q) (sym (queue_beside o (visited now n x) y refl refl))
       (rw same (visit n (omega arith) x (b.semaphores ∙ ss) (b.events ∙ es) (walk n (omega arith))))
 
@@ -241,8 +241,8 @@ tick_mark k j h =
     (λ _. set_each (λ i t. t.limit_passed ≡ (slot (advanced k) i).limit_passed) blank_slot (advanced k).tasks (current (advanced k)) _ (spent_mark (current_task (advanced k))) (λ _. refl) j) (λ _. refl)
     ∙ ap (λ (t : TaskControl). t.limit_passed) walk
 
-wanted : (s c w d : Bool) → s ≡ true → w ≡ true → (if not s then false else if not c then true else (w || d)) ≡ true
-unfolding if◌then◌else◌
+wanted : (s c w d : Bool) → s ≡ true → w ≡ true → (if not s then false otherwise if not c then true otherwise (w || d)) ≡ true
+unfolding if◌then◌otherwise◌
 wanted true true true d o e = refl
 wanted true false w d o e = refl
 wanted true true false d o e = absurd (false≢true e)

@@ -10,7 +10,7 @@ use native.Mathlib.Omega.{arith}
 use lib.Dec.{eqb}
 use lib.ListN.{get_or-eq_default}
 use borrow.Author.Tests.{eqb-true, eqb-false}
-use Rattle.base.specs.Choice.{if◌then◌else◌}
+use Rattle.base.specs.Choice.{if◌then◌otherwise◌}
 use Rattle.base.specs.Below.{sum_below}
 use Rattle.base.proofs.Choices.{either}
 use Rattle.base.proofs.Loops.{sum_mono, sum_but}
@@ -60,8 +60,8 @@ or_true : (b : Bool) → (b || true) ≡ true
 or_true true = refl
 or_true false = refl
 
-yes_or_no : (b : Bool) → eqb (if b then 1 else 0) 1 ≡ b
-unfolding if◌then◌else◌
+yes_or_no : (b : Bool) → eqb (if b then 1 otherwise 0) 1 ≡ b
+unfolding if◌then◌otherwise◌
 yes_or_no true = refl
 yes_or_no false = refl
 
@@ -74,7 +74,7 @@ pub record Fact (k : Kernel) (b : Bool) (v : Outcome) (k' : Kernel) : Type 0 whe
   step : k.started ≡ true → Step rank k v k'
   -- the charge of a task that is there before and after, and the sum of all with the retired one
   account : k.started ≡ true → (j : ℕ) → (slot k j).occupied ≡ true → (slot k' j).occupied ≡ true → charge k' j ≡ charge k j + tick_of j k v
-  pub sum : charge_sum k' ≡ charge_sum k + (if k.started then accepted_tick v else 0)
+  pub sum : charge_sum k' ≡ charge_sum k + (if k.started then accepted_tick v otherwise 0)
   begun : (s : ℕ) → v ≡ turn s → (current k' ≡ s) × (s < 16) × (k'.started ≡ true)
   priority : (j : ℕ) → (slot k j).occupied ≡ true → (slot k' j).occupied ≡ true → priority_of k' j ≡ priority_of k j
   -- tick_count rises by the accepted ticks, and with such a tick every limit lies ahead
@@ -85,7 +85,7 @@ same_priority : {g : Kind} {k k' : Kernel} → Changes g k k' → (j : ℕ) → 
 same_priority cs j o p = ap (λ x. x.0) (priority_kept cs j o p)
 
 -- nothing is added
-no_more : (b : Bool) → ◌≡◌ {A = ℕ} (if b then 0 else 0) 0
+no_more : (b : Bool) → ◌≡◌ {A = ℕ} (if b then 0 otherwise 0) 0
 no_more b = either (λ n. n ≡ 0) b (λ _. refl) (λ _. refl)
 
 other_fact : {g : Kind} {k k' : Kernel} → IsOther g → Invariant k → Changes g k k' → Fact k false other k'
@@ -173,11 +173,11 @@ reached_invariant = reached Invariant fresh_invariant (λ k c e i. (accepted_fac
 
 -- an answer is what its call does on the kernel before it, refused or not
 answer_fact : (k : Kernel) (c : Call) → Invariant k → Fact k (is_start (record { call = c; answer = step k c })) (outcome (record { call = c; answer = step k c })) (step k c).kernel
-unfolding step outcome is_start if◌then◌else◌
+unfolding step outcome is_start if◌then◌otherwise◌
 answer_fact k c i =
-    either (λ (a : Answer). Fact k (eqb a.number 0 && starts (kind c)) (if eqb a.number 0 then outcome_of (kind c) a.value else other) a.kernel) (eqb (number k c) 0)
+    either (λ (a : Answer). Fact k (eqb a.number 0 && starts (kind c)) (if eqb a.number 0 then outcome_of (kind c) a.value otherwise other) a.kernel) (eqb (number k c) 0)
     (λ q. let m = eqb-true (number k c) 0 q in accepted_fact k c i m (made_of k c m))
-    (λ q. subst (λ (b : Bool). Fact k (b && starts (kind c)) (if b then outcome_of (kind c) Nothing else other) k) (sym q) (other_fact {g = plain} tt i none))
+    (λ q. subst (λ (b : Bool). Fact k (b && starts (kind c)) (if b then outcome_of (kind c) Nothing otherwise other) k) (sym q) (other_fact {g = plain} tt i none))
 
 pub entry_fact : (k : Kernel) (e : Entry) → Invariant k → e.answer ≡ step k e.call → Fact k (is_start e) (outcome e) (after e)
 entry_fact k e i r = subst (λ (a : Answer). Fact k (is_start (record { call = e.call; answer = a })) (outcome (record { call = e.call; answer = a })) a.kernel) (sym r) (answer_fact k e.call i)
@@ -209,7 +209,7 @@ between_of e (f ∷ es) two fs o c =
     record { steps = (c.0.step o, x.steps); second = x.second; account = λ j b s. omega (arith, x.account j b s.1, c.0.account o j s.0.present s.1.0.present) }
 
 switch_is_turn : (e : Entry) → AcceptedSwitch e → IsTurn (outcome e)
-unfolding outcome outcome_of if◌then◌else◌
+unfolding outcome outcome_of if◌then◌otherwise◌
 switch_is_turn e s = rw (s.1, s.0) tt
 
 five : (j : ℕ) → most j ≤ 5
@@ -217,16 +217,16 @@ five zero = omega arith
 five (suc j) = omega arith
 
 -- a slice of each slot but i: idle's 1 and fifteen fives, less that of i
-slices : (f : ℕ → ℕ) (i : ℕ) → i < 16 → ((j : ℕ) → j < 16 → f j ≤ most j) → sum_below (λ j. if eqb j i then 0 else f j) 16 + most i ≤ 76
-unfolding sum_below if◌then◌else◌
+slices : (f : ℕ → ℕ) (i : ℕ) → i < 16 → ((j : ℕ) → j < 16 → f j ≤ most j) → sum_below (λ j. if eqb j i then 0 otherwise f j) 16 + most i ≤ 76
+unfolding sum_below if◌then◌otherwise◌
 slices f i h g =
-    let others = sum_mono (λ j. if eqb j i then 0 else f j) (λ j. if eqb j i then 0 else most j) 16 (λ j l. within j (eqb j i) (g j l)) in
-    let all = sum_but most (λ j. if eqb j i then 0 else most j) 16 i h (λ j n. either (λ x. x ≡ most j) (eqb j i) (λ e. absurd (n (eqb-true j i e))) (λ _. refl)) in
-    let here : (if eqb i i then 0 else most i) ≡ 0 = either (λ x. x ≡ 0) (eqb i i) (λ _. refl) (λ e. absurd (eqb-false i i e refl)) in
+    let others = sum_mono (λ j. if eqb j i then 0 otherwise f j) (λ j. if eqb j i then 0 otherwise most j) 16 (λ j l. within j (eqb j i) (g j l)) in
+    let all = sum_but most (λ j. if eqb j i then 0 otherwise most j) 16 i h (λ j n. either (λ x. x ≡ most j) (eqb j i) (λ e. absurd (n (eqb-true j i e))) (λ _. refl)) in
+    let here : (if eqb i i then 0 otherwise most i) ≡ 0 = either (λ x. x ≡ 0) (eqb i i) (λ _. refl) (λ e. absurd (eqb-false i i e refl)) in
     let total : sum_below most 16 ≡ 76 = refl in
     omega (arith, others, all, here, total)
   where
-    within : (j : ℕ) (b : Bool) → f j ≤ most j → (if b then 0 else f j) ≤ (if b then 0 else most j)
+    within : (j : ℕ) (b : Bool) → f j ≤ most j → (if b then 0 otherwise f j) ≤ (if b then 0 otherwise most j)
     within j true l = omega arith
     within j false l = l
 

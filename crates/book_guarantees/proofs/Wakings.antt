@@ -10,7 +10,7 @@ use lib.Dec.{eqb}
 use lib.ListN.{length, length-set}
 use lib.Seq.{get_or-set_same, get_or-set_other}
 use borrow.Author.Tests.{ltb-true, eqb-true}
-use Rattle.base.specs.Choice.{if◌then◌else◌}
+use Rattle.base.specs.Choice.{if◌then◌otherwise◌}
 use Rattle.base.proofs.Choices.{not_yes, and_left, and_right, either}
 use Rattle.kernel.specs.declared.control.TaskId.{TaskId}
 use Rattle.kernel.specs.declared.control.TaskState.{TaskState}
@@ -55,7 +55,7 @@ is_blocked Suspended e = absurd (false≢true e)
 is_blocked Terminated e = absurd (false≢true e)
 
 woken_one : (k : Kernel) (a : TaskId) → wakes a k ≡ true → OneReady k (Scheduler.wake a k) (slot_of k a)
-unfolding if◌then◌else◌
+unfolding if◌then◌otherwise◌
 woken_one k a t =
     let i = slot_of k a in
     let o = found_occupied k a (ltb-true _ _ (and_left _ _ t)) in
@@ -266,7 +266,7 @@ tells k r c queue x h = let e = accepts k c h in of_step (λ a. (a.value ≡ Yes
 -- ---- the sentences
 
 pub wake_guarantee : WakeGuarantee
-unfolding value effect if◌then◌else◌
+unfolding value effect if◌then◌otherwise◌
 wake_guarantee k r = record {
   wake_yes = λ a h. let e = answers k (wake a) true h in of_step (λ x. OneReady k x.kernel (slot_of k a)) k (wake a) e (woken_one k a (told k (wake a) true _ refl h));
   wake_no = λ a h. let e = answers k (wake a) false h in of_step (λ x. x.kernel ≡ k) k (wake a) e (sym (rw (told k (wake a) false _ refl h) at (wake_is a k)));

@@ -1,7 +1,7 @@
 -- What the book says of charges (02, W-206): after every list of calls from fresh, those of occupied slots and the retired sum add up to the ticks accepted
 -- after the start, and an empty slot has none.
 use Rattle.std.specs.Prelude.{◌≡◌, false, List, ◌≢◌, ℕ, ◌+◌, ◌<◌}
-use Rattle.base.specs.Choice.{if◌then◌else◌}
+use Rattle.base.specs.Choice.{if◌then◌otherwise◌}
 use Rattle.base.specs.Below.{sum_below}
 use Rattle.kernel.specs.declared.control.TaskId.{TaskId}
 use Rattle.kernel.specs.declared.control.Priority.{Priority}
@@ -14,7 +14,7 @@ use Rattle.book_guarantees.specs.Lists.{Entry, Returned, end, ticks_after_start}
 
 -- "the charges of occupied slots", added up
 abbrev pub occupied_charges : Kernel → ℕ
-occupied_charges k = sum_below (λ i. if is_occupied k i then charge k i else 0) 16
+occupied_charges k = sum_below (λ i. if is_occupied k i then charge k i otherwise 0) 16
 
 -- of kernel k, where so many ticks were accepted after the start
 pub record Charges (k : Kernel) (ticks : ℕ) : Type 0 where

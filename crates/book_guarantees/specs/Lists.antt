@@ -1,6 +1,6 @@
 -- A list of kernel calls with what they returned: what holds of each, what each call was, and how many turns and ticks it has.
 use Rattle.std.specs.Prelude.{◌≡◌, Bool, true, false, ◌&&◌, List, [], ◌∷◌, ℕ, ◌+◌, eqb}
-use Rattle.base.specs.Choice.{if◌then◌else◌}
+use Rattle.base.specs.Choice.{if◌then◌otherwise◌}
 use Rattle.kernel.specs.declared.scheduler.Kernel.{Kernel}
 use Rattle.kernel.specs.declared.scheduler.Value.{Value}
 use Rattle.kernel.specs.declared.scheduler.Answer.{Answer}
@@ -57,7 +57,7 @@ outcome_of plain v = other
 
 -- accepted means number 0
 unfoldable pub outcome : Entry → Outcome
-outcome e = if eqb e.answer.number 0 then outcome_of (kind e.call) e.answer.value else other
+outcome e = if eqb e.answer.number 0 then outcome_of (kind e.call) e.answer.value otherwise other
 
 abbrev pub AcceptedSwitch : Entry → Type 0
 AcceptedSwitch e = (kind e.call ≡ switching) × (e.answer.number ≡ 0)
@@ -79,7 +79,7 @@ is_start e = eqb e.answer.number 0 && starts (kind e.call)
 
 -- 1 for a turn of slot j, otherwise 0
 abbrev pub turn_of : ℕ → Outcome → ℕ
-turn_of j (turn s) = if eqb s j then 1 else 0
+turn_of j (turn s) = if eqb s j then 1 otherwise 0
 turn_of j (tick w) = 0
 turn_of j other = 0
 
@@ -91,7 +91,7 @@ turns j (e ∷ es) = turn_of j (outcome e) + turns j es
 -- 1 for an accepted tick while slot j is current in k, otherwise 0
 abbrev pub tick_of : ℕ → Kernel → Outcome → ℕ
 tick_of j k (turn s) = 0
-tick_of j k (tick w) = if eqb (current k) j then 1 else 0
+tick_of j k (tick w) = if eqb (current k) j then 1 otherwise 0
 tick_of j k other = 0
 
 -- how many accepted ticks of the list were made while slot j was current; k is the kernel before the list
@@ -113,4 +113,4 @@ accepted_ticks (e ∷ es) = accepted_tick (outcome e) + accepted_ticks es
 -- how many were accepted after the start, that is, after the first accepted start of the list: on a started kernel there is no other
 abbrev pub ticks_after_start : List Entry → ℕ
 ticks_after_start [] = 0
-ticks_after_start (e ∷ es) = if is_start e then accepted_ticks es else ticks_after_start es
+ticks_after_start (e ∷ es) = if is_start e then accepted_ticks es otherwise ticks_after_start es

@@ -1,6 +1,6 @@
 -- What the book says of load per thousand (02, W-207): after every list of calls from fresh.
 use Rattle.std.specs.Prelude.{ℕ, ◌+◌, ◌*◌, ◌≤◌, ◌<◌, ◌≡◌, true, false, List, ◌≢◌}
-use Rattle.base.specs.Choice.{if◌then◌else◌}
+use Rattle.base.specs.Choice.{if◌then◌otherwise◌}
 use Rattle.base.specs.Below.{sum_below}
 use Rattle.kernel.specs.declared.control.TaskId.{TaskId}
 use Rattle.kernel.specs.declared.scheduler.Kernel.{Kernel}
@@ -29,7 +29,7 @@ asked k i = step k (load (slot k i).id)
 
 -- f of each present task, added up
 abbrev pub of_present : Kernel → (ℕ → ℕ) → ℕ
-of_present k f = sum_below (λ i. if is_occupied k i then f i else 0) 16
+of_present k f = sum_below (λ i. if is_occupied k i then f i otherwise 0) 16
 
 -- no task but that of slot i was charged, the reaped ones included
 pub record Alone (k : Kernel) (i : ℕ) : Type 0 where

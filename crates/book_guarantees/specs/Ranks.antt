@@ -1,6 +1,6 @@
 -- What the book says of ranks (02, W-205), of every kernel.
 use Rattle.std.specs.Prelude.{ℕ, ◌≤◌, ◌<◌, ◌≡◌, true, false, ◌&&◌, ◌⊎◌, List, eqb, length}
-use Rattle.base.specs.Choice.{if◌then◌else◌}
+use Rattle.base.specs.Choice.{if◌then◌otherwise◌}
 use Rattle.base.specs.Below.{tabulate}
 use Rattle.kernel.specs.declared.control.TaskId.{TaskId}
 use Rattle.kernel.specs.declared.control.OptionTaskId.TheVariants.{Some}
@@ -33,7 +33,7 @@ pub record Best (k : Kernel) (s : ℕ) : Type 0 where
 
 -- what the exported pick is lent for kernel k: the states, 6 for an empty slot, and the ranks
 abbrev pub state_byte : Kernel → ℕ → ℕ
-state_byte k i = if (slot k i).occupied then state_number (slot k i).state else 6
+state_byte k i = if (slot k i).occupied then state_number (slot k i).state otherwise 6
 
 abbrev pub state_bytes : Kernel → List ℕ
 state_bytes k = tabulate (state_byte k) 16
@@ -43,7 +43,7 @@ rank_bytes k = tabulate (rank k) 16
 
 -- for a switch, current's Running is given as Ready
 abbrev pub switch_bytes : Kernel → List ℕ
-switch_bytes k = tabulate (λ i. if eqb i (current k) && in_state Running (slot k i) then 0 else state_byte k i) 16
+switch_bytes k = tabulate (λ i. if eqb i (current k) && in_state Running (slot k i) then 0 otherwise state_byte k i) 16
 
 -- ---- what is said
 

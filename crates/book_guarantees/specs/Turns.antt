@@ -1,6 +1,6 @@
 -- The book's third sentence, clause by clause, in the request's words and 01's, by rank and of the task's own charge as 02 has it (W-205, W-206); and by priority number, as the request has it, where no mutex has a queue.
 use Rattle.std.specs.Prelude.{◌≡◌, true, List, [], ◌∷◌, ◌++◌, ◌⊎◌, ◌≢◌, ℕ, ◌+◌, ◌-◌, ◌≤◌, eqb}
-use Rattle.base.specs.Choice.{if◌then◌else◌}
+use Rattle.base.specs.Choice.{if◌then◌otherwise◌}
 use Rattle.base.specs.Below.{sum_below}
 use Rattle.kernel.specs.declared.control.TaskId.{TaskId}
 use Rattle.kernel.specs.declared.control.TaskState.TheVariants.{Ready, Running}
@@ -56,7 +56,7 @@ pub record Rises (j : ℕ) (one : Entry) (between : List Entry) : Type 0 where
 
 -- "accepted ticks while others were current" (02, W-206): while any slot but i was, added up over the slots
 abbrev pub ticks_while_others : ℕ → Entry → List Entry → ℕ
-ticks_while_others i one between = sum_below (λ j. if eqb j i then 0 else ticks_while j (after one) between) 16
+ticks_while_others i one between = sum_below (λ j. if eqb j i then 0 otherwise ticks_while j (after one) between) 16
 
 -- "has exactly one turn between", and its charge "rises by at most 5. In every such stretch the charge" of the first task "also rises by at most 5"; "and the
 -- bound of 75 counts accepted ticks while others were current" (02, W-206). `Peers j b` says that task b of slot j is a peer.

@@ -9,7 +9,7 @@ use lib.Dec.{eqb}
 use lib.ListN.{length, set, take, drop, get_or, replicate, length-set, length-replicate, length-append}
 use lib.Seq.{take-suc-set, take-suc, drop-cons, set_at, length-take-le}
 use borrow.Author.Tests.{eqb-true, eq-eqb, ne_eqb, ltb-false}
-use Rattle.base.specs.Choice.{if◌then◌else◌}
+use Rattle.base.specs.Choice.{if◌then◌otherwise◌}
 use Rattle.base.specs.Below.{count_below}
 use Rattle.base.proofs.Choices.{taken, left, not_clear}
 use Rattle.base.proofs.Loops.{count_le}
@@ -32,13 +32,13 @@ pub rows_start : (k : Kernel) (arena : List ℕ) → IsRows k arena 0 no_rows
 unfolding task_infos count_below
 rows_start k arena = record { full = length-replicate 16 blank_info; count = refl; infos = refl }
 
-one_more : (b : Bool) (info : TaskInfo) (infos : List TaskInfo) (n : ℕ) (r r' : Rows) → r' ≡ (if b then with_row info r else r) → length r.rows ≡ 16 → r.len < 16 → r.len ≡ n → take r.len r.rows ≡ infos
-    → (length r'.rows ≡ 16) × (r'.len ≡ (if b then suc n else n)) × (take r'.len r'.rows ≡ (if b then infos ++ (info ∷ []) else infos))
-unfolding if◌then◌else◌
+one_more : (b : Bool) (info : TaskInfo) (infos : List TaskInfo) (n : ℕ) (r r' : Rows) → r' ≡ (if b then with_row info r otherwise r) → length r.rows ≡ 16 → r.len < 16 → r.len ≡ n → take r.len r.rows ≡ infos
+    → (length r'.rows ≡ 16) × (r'.len ≡ (if b then suc n otherwise n)) × (take r'.len r'.rows ≡ (if b then infos ++ (info ∷ []) otherwise infos))
+unfolding if◌then◌otherwise◌
 one_more true info infos n r r' e l h c t = rw e (length-set r.rows r.len info ∙ l, add-one r.len ∙ ap suc c, rw (add-one r.len, take-suc-set r.rows r.len info (omega arith), t))
 one_more false info infos n r r' e l h c t = rw e (l, c, t)
 
-pub rows_more : (k : Kernel) (arena : List ℕ) (n : ℕ) (r r' : Rows) → IsRows k arena n r → n < 16 → r' ≡ (if (slot k n).occupied then with_row (task_info arena (slot k n)) r else r) → IsRows k arena (n + 1) r'
+pub rows_more : (k : Kernel) (arena : List ℕ) (n : ℕ) (r r' : Rows) → IsRows k arena n r → n < 16 → r' ≡ (if (slot k n).occupied then with_row (task_info arena (slot k n)) r otherwise r) → IsRows k arena (n + 1) r'
 unfolding task_infos count_below
 rows_more k arena n r r' is h e =
     let m = one_more (slot k n).occupied (task_info arena (slot k n)) (task_infos k arena n) (count_below (is_occupied k) n) r r' e is.full (omega (arith, is.count, count_le (is_occupied k) n)) is.count is.infos in
@@ -46,11 +46,11 @@ rows_more k arena n r r' is h e =
 
 -- as many as there are tasks
 pub infos_count : (k : Kernel) (arena : List ℕ) (n : ℕ) → length (task_infos k arena n) ≡ count_below (is_occupied k) n
-unfolding task_infos count_below if◌then◌else◌
+unfolding task_infos count_below if◌then◌otherwise◌
 infos_count k arena zero = refl
 infos_count k arena (suc n) = one_more (slot k n).occupied (infos_count k arena n)
   where
-    one_more : (b : Bool) → length (task_infos k arena n) ≡ count_below (is_occupied k) n → length (if b then task_infos k arena n ++ (task_info arena (slot k n) ∷ []) else task_infos k arena n) ≡ (if b then suc (count_below (is_occupied k) n) else count_below (is_occupied k) n)
+    one_more : (b : Bool) → length (task_infos k arena n) ≡ count_below (is_occupied k) n → length (if b then task_infos k arena n ++ (task_info arena (slot k n) ∷ []) otherwise task_infos k arena n) ≡ (if b then suc (count_below (is_occupied k) n) otherwise count_below (is_occupied k) n)
     one_more true e = length-append (task_infos k arena n) (task_info arena (slot k n) ∷ []) ∙ omega (arith, e)
     one_more false e = e
 
@@ -100,6 +100,6 @@ plan_accepted k arena room n p e z a is records l =
       fit = omega (arith, f.2, is.count, (is_whole k f.0).count);
     }
 
-pub answer_is : (k : Kernel) (arena : List ℕ) (records : List TaskInfo) (n : ℕ) (r : Answer) → n ≡ number k (Calls.list arena records) → r ≡ (if eqb n 0 then accepted (Count k.task_count) k else refused n k) → r ≡ step k (Calls.list arena records)
+pub answer_is : (k : Kernel) (arena : List ℕ) (records : List TaskInfo) (n : ℕ) (r : Answer) → n ≡ number k (Calls.list arena records) → r ≡ (if eqb n 0 then accepted (Count k.task_count) k otherwise refused n k) → r ≡ step k (Calls.list arena records)
 unfolding step value effect
 answer_is k arena records n r e a = a ∙ rw e

@@ -2,7 +2,7 @@
 #![tactic(auto)]
 
 ghost use Rattle.std.specs.Prelude.{◌≡◌, true, ◌++◌, ◌+◌, ◌-◌, ◌/◌, ◌<◌, ◌≤◌, min, eqb, length, get_or, take, drop, replicate};
-ghost use Rattle.base.specs.Choice.{if◌then◌else◌};
+ghost use Rattle.base.specs.Choice.{if◌then◌otherwise◌};
 ghost use Rattle.kernel.specs.Control.{stack_used};
 ghost use Rattle.kernel.specs.Kernel.{whole};
 ghost use Rattle.kernel.specs.Calls.{list, task_info, refused, accepted, step, list_records};
@@ -83,7 +83,7 @@ fn no_rows() -> Rows
 // With one record more, where the slot is occupied.
 fn with_slot(mut r: Rows, t: TaskControl, arena: &[u32]) -> Rows
     requires { (r.len < 16) × (t.occupied ≡ true → t.stack.start / 4 + t.stack.size / 4 ≤ length arena.now) }
-    ensures { result ≡ (if t.occupied then with_row (task_info arena.now t) r else r) }
+    ensures { result ≡ (if t.occupied then with_row (task_info arena.now t) r otherwise r) }
 {
     if !t.occupied {
         return r;
@@ -135,7 +135,7 @@ fn planned(k: Kernel, arena: &[u32], room: usize) -> Plan
 }
 
 fn answered(k: Kernel, number: u8) -> Answer
-    ensures { result ≡ (if eqb number 0 then accepted (Value.Count k.task_count) k else refused number k) }
+    ensures { result ≡ (if eqb number 0 then accepted (Value.Count k.task_count) k otherwise refused number k) }
 {
     if number != 0 {
         return answer::refused(number, k);

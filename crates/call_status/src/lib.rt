@@ -2,7 +2,7 @@
 #![tactic(auto)]
 
 ghost use Rattle.std.specs.Prelude.{◌≡◌, not, ◌<◌};
-ghost use Rattle.base.specs.Choice.{if◌then◌else◌};
+ghost use Rattle.base.specs.Choice.{if◌then◌otherwise◌};
 ghost use Rattle.kernel.specs.Control.{state_of};
 ghost use Rattle.kernel.specs.Kernel.{current, whole};
 ghost use Rattle.kernel.specs.Scheduler.{sleep as slept};
@@ -18,7 +18,7 @@ pub mod internal;
 // 1 not whole; 2 not started.
 fn started_number(k: Kernel, is_whole: bool) -> u8
     requires { is_whole ≡ whole k }
-    ensures { result ≡ (if not (whole k) then 1 else if not k.started then 2 else 0) }
+    ensures { result ≡ (if not (whole k) then 1 otherwise if not k.started then 2 otherwise 0) }
 {
     answer::refuse_if(!is_whole, 1, answer::refuse_if(!k.started, 2, 0))
 }

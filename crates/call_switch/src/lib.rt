@@ -2,7 +2,7 @@
 #![tactic(auto)]
 
 ghost use Rattle.std.specs.Prelude.{◌≡◌, not, ◌+◌, ◌/◌, ◌<◌, ◌≤◌, length};
-ghost use Rattle.base.specs.Choice.{if◌then◌else◌};
+ghost use Rattle.base.specs.Choice.{if◌then◌otherwise◌};
 ghost use Rattle.kernel.specs.Control.{sp_in_range, stack_guard_ok};
 ghost use Rattle.kernel.specs.Kernel.{current, whole};
 ghost use Rattle.kernel.specs.Scheduler;
@@ -38,7 +38,7 @@ fn stack_guard_ok(region: StackRegion, arena: &[u32]) -> bool
 // 16 sp outside the region; 17 the guard is not intact.
 fn switch_late_number(stack: StackRegion, sp: u32, arena: &[u32]) -> u8
     requires { stack.start / 4 + 4 ≤ length arena.now }
-    ensures { result ≡ (if not (sp_in_range stack sp) then 16 else if not (stack_guard_ok stack arena.now) then 17 else 0) }
+    ensures { result ≡ (if not (sp_in_range stack sp) then 16 otherwise if not (stack_guard_ok stack arena.now) then 17 otherwise 0) }
 {
     let inside = sp_in_range(stack, sp);
     let intact = stack_guard_ok(stack, arena);

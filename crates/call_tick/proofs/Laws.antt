@@ -9,7 +9,7 @@ use lib.Dec.{eqb, leb}
 use lib.ListN.{get_or, set}
 use lib.Seq.{set-get_or}
 use borrow.Author.Tests.{ltb-true}
-use Rattle.base.specs.Choice.{if◌then◌else◌}
+use Rattle.base.specs.Choice.{if◌then◌otherwise◌}
 use Rattle.base.specs.Below.{any_below}
 use Rattle.base.proofs.Loops.{Upto, any_start, upto_any, any_done, sum_at}
 use Rattle.kernel.specs.declared.control.LimitObject.{LimitObject}
@@ -120,7 +120,7 @@ or_false false = refl
 -- a limit that is due
 pub walking_limit : {now : ℕ} {k₀ k k' : Kernel} {woke : Bool} {i : ℕ} → Walking now k₀ k woke i → i < 16 → is_limit_due now (slot k i) ≡ true → k' ≡ unqueued (slot k i).limit_object (slot k i).id k
     → Walking now k₀ (with_tasks (set k'.tasks i (expired (slot k i))) k') true (i + 1)
-unfolding visited woken if◌then◌else◌
+unfolding visited woken if◌then◌otherwise◌
 walking_limit {now} {k₀} {k} {k'} {woke} {i} w h e u =
     let s : slot k' i ≡ slot k i = ap (λ (x : Kernel). slot x i) u ∙ ap (λ (l : List TaskControl). get_or l i blank_slot) (unqueued_tasks (slot k i).limit_object (slot k i).id k) in
     walking_next true w h (rw (e, ← u, s, e)) (rw e (or_true woke))
@@ -128,12 +128,12 @@ walking_limit {now} {k₀} {k} {k'} {woke} {i} w h e u =
 -- a sleeper that is due
 pub walking_due : {now : ℕ} {k₀ k : Kernel} {woke : Bool} {i : ℕ} → Walking now k₀ k woke i → i < 16 → is_limit_due now (slot k i) ≡ false → is_due now (slot k i) ≡ true
     → Walking now k₀ (with_tasks (set k.tasks i (entered Ready (slot k i))) k) true (i + 1)
-unfolding visited woken if◌then◌else◌
+unfolding visited woken if◌then◌otherwise◌
 walking_due {woke = woke} w h e d = walking_next true w h (rw (e, e, d)) (rw (e, d) (or_true woke))
 
 -- any other slot is left as it is
 pub walking_other : {now : ℕ} {k₀ k : Kernel} {woke : Bool} {i : ℕ} → Walking now k₀ k woke i → i < 16 → is_limit_due now (slot k i) ≡ false → is_due now (slot k i) ≡ false → Walking now k₀ k woke (i + 1)
-unfolding visited woken if◌then◌else◌
+unfolding visited woken if◌then◌otherwise◌
 walking_other {k = k} {woke = woke} {i = i} w h e d = walking_next woke w h (rw (e, e, d, set-get_or k.tasks i blank_slot)) (rw (e, d) (or_false woke))
 
 pub walking_done : {now : ℕ} {k₀ k : Kernel} {woke : Bool} {i : ℕ} → Walking now k₀ k woke i → 16 ≤ i → (k ≡ walked now 16 k₀) × (woke ≡ any_below (λ j. wakes now (slot k₀ j)) 16)
@@ -157,22 +157,22 @@ module _ (k kʷ : Kernel) (woke : Bool) (is : kʷ ≡ walked (k.tick_count + 1) 
   ticking = with_tick_count (k.tick_count + 1) kʷ
 
   off_is : kʷ.started ≡ false → ticking ≡ advanced k
-  unfolding advanced clocked if◌then◌else◌
+  unfolding advanced clocked if◌then◌otherwise◌
   off_is off = rw (← is, off, clock_is)
 
   on_is : kʷ.started ≡ true → charged ticking ≡ advanced k
-  unfolding advanced clocked if◌then◌else◌
+  unfolding advanced clocked if◌then◌otherwise◌
   on_is on = rw (← is, on, clock_is)
 
   pub not_started : kʷ.started ≡ false → accepted (YesNo false) ticking ≡ accepted (value k tick) (effect k tick)
-  unfolding value effect Scheduler.tick wants_switch wants sliced if◌then◌else◌
+  unfolding value effect Scheduler.tick wants_switch wants sliced if◌then◌otherwise◌
   not_started off = rw (← off_is off, off)
 
   pub not_running : kʷ.started ≡ true → in_state Running (current_task (charged ticking)) ≡ false → accepted (YesNo true) (charged ticking) ≡ accepted (value k tick) (effect k tick)
-  unfolding value effect Scheduler.tick wants_switch wants sliced if◌then◌else◌
+  unfolding value effect Scheduler.tick wants_switch wants sliced if◌then◌otherwise◌
   not_running on rest = rw (← on_is on, on, rest)
 
   pub running : kʷ.started ≡ true → in_state Running (current_task (charged ticking)) ≡ true
       → accepted (YesNo (woke || eqb ((current_task (charged ticking)).remaining_slice - 1) 0)) (at (current (charged ticking)) spent (charged ticking)) ≡ accepted (value k tick) (effect k tick)
-  unfolding value effect Scheduler.tick wants_switch wants sliced if◌then◌else◌
+  unfolding value effect Scheduler.tick wants_switch wants sliced if◌then◌otherwise◌
   running on runs = rw (← on_is on, on, runs, due)

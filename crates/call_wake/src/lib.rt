@@ -2,7 +2,7 @@
 #![tactic(auto)]
 
 ghost use Rattle.std.specs.Prelude.{◌≡◌, not};
-ghost use Rattle.base.specs.Choice.{if◌then◌else◌};
+ghost use Rattle.base.specs.Choice.{if◌then◌otherwise◌};
 ghost use Rattle.kernel.specs.Kernel.{is_present, whole};
 ghost use Rattle.kernel.specs.Scheduler.{set_result};
 ghost use Rattle.kernel.specs.Calls;
@@ -24,7 +24,7 @@ pub fn wake_task(k: Kernel, id: TaskId) -> Answer
 // 1 not whole; 8 unknown.
 fn result_number(k: Kernel, is_whole: bool, id: TaskId) -> u8
     requires { is_whole ≡ whole k }
-    ensures { result ≡ (if not (whole k) then 1 else if not (is_present k id) then 8 else 0) }
+    ensures { result ≡ (if not (whole k) then 1 otherwise if not (is_present k id) then 8 otherwise 0) }
 {
     let present = leaf_table::internal::slot_of(k, id) < Kernel::MAX_TASKS;
     answer::refuse_if(!is_whole, 1, answer::refuse_if(!present, 8, 0))

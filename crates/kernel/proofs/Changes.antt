@@ -7,7 +7,7 @@ use lib.Dec.{eqb}
 use lib.IntN.{ℤ}
 use lib.ListN.{length, get_or, set, length-set}
 use borrow.Author.Tests.{ltb-true, not-true}
-use Rattle.base.specs.Choice.{if◌then◌else◌}
+use Rattle.base.specs.Choice.{if◌then◌otherwise◌}
 use Rattle.base.proofs.Choices.{either}
 use Rattle.base.proofs.Loops.{lowest_is, set_each}
 use Rattle.kernel.specs.Types.{Priority, StackRegion, OptionTaskId, None, Some, TaskId, TaskState, Running, Blocked, Sleeping, Terminated, LimitObject, NoLimit, AtSemaphore, AtEvent, TaskControl, WaitQueue, Semaphore, Event, Kernel}
@@ -81,7 +81,7 @@ pub data Hand (k : Kernel) (m : ℕ) : Bool → OptionTaskId → OptionTaskId �
 
 -- the charges after a tick
 abbrev pub charged : Kernel → List ℕ
-charged k = if k.started then set k.charges (current k) (charge k (current k) + 1) else k.charges
+charged k = if k.started then set k.charges (current k) (charge k (current k) + 1) otherwise k.charges
 
 -- Each carries what an accepted call knows of it; a kind rules out the changes that its calls do not make.
 pub data Change : Kind → Kernel → Kernel → Type 0 where

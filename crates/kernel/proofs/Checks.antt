@@ -5,7 +5,7 @@ use mathlib.Core.Bool.{Bool, true, false, ◌&&◌}
 use mathlib.Core.List.{List, [], ◌∷◌, ◌++◌}
 use lib.Dec.{ltb}
 use borrow.Author.Tests.{ltb-true}
-use Rattle.base.specs.Choice.{if◌then◌else◌}
+use Rattle.base.specs.Choice.{if◌then◌otherwise◌}
 use Rattle.base.proofs.Choices.{clear, and_left, and_right, either, taken, left}
 use Rattle.kernel.specs.Calls.{Check, ◌when◌, first_of}
 
@@ -28,7 +28,7 @@ passed ((n when b) ∷ cs) (suc i) p e = passed cs i (and_right (ltb 0 n) (nonze
 -- r is what the checks cs say: where it refuses, so do they before any others; where it does not, the others say
 pub refused_early : (cs ds : List Check) (r : ℕ) → r ≡ first_of cs → (r ≡ 0 → ⊥) → r ≡ first_of (cs ++ ds)
 refused_early [] ds r e h = absurd (h e)
-refused_early ((n when b) ∷ cs) ds r e h = either (λ m. r ≡ m → r ≡ if b then n else first_of (cs ++ ds)) b (λ t q. taken _ _ _ _ t q) (λ f q. left _ _ _ _ f (refused_early cs ds r q h)) e
+refused_early ((n when b) ∷ cs) ds r e h = either (λ m. r ≡ m → r ≡ if b then n otherwise first_of (cs ++ ds)) b (λ t q. taken _ _ _ _ t q) (λ f q. left _ _ _ _ f (refused_early cs ds r q h)) e
 
 pub passed_early : (cs ds : List Check) (r s : ℕ) → nonzero cs ≡ true → r ≡ first_of cs → r ≡ 0 → s ≡ first_of ds → s ≡ first_of (cs ++ ds)
 passed_early [] ds r s p e z g = g

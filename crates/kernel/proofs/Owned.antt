@@ -10,7 +10,7 @@ use lib.Dec.{eqb}
 use lib.ListN.{length, get_or, set, length-set, replicate, get_or-eq_default}
 use lib.Seq.{get_or-set_same, get_or-set_other}
 use borrow.Author.Tests.{ltb-true, ltb-false, eqb-true, eq-eqb, ne_eqb}
-use Rattle.base.specs.Choice.{if◌then◌else◌}
+use Rattle.base.specs.Choice.{if◌then◌otherwise◌}
 use Rattle.base.specs.Below.{count_below}
 use Rattle.base.proofs.Choices.{either, and_left, and_right}
 use Rattle.base.proofs.Loops.{count_same, count_le, count_one, count_some, sum_none, lowest_is, lowest_at, set_each, tabulate_at, tabulate_length}
@@ -402,7 +402,7 @@ besides owning k k' w v = owned_fits k' v
 besides plain k k' w v = tt
 
 fresh_whole : (hz words : ℕ) → init_number hz words ≡ 0 → Whole (fresh_kernel hz words)
-unfolding fresh_kernel count_below if◌then◌else◌
+unfolding fresh_kernel count_below if◌then◌otherwise◌
 fresh_whole hz words e = record {
   arena = (init_accepted hz words e).0;
   clock = omega (arith, (init_accepted hz words e).1);

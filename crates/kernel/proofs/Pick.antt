@@ -4,7 +4,7 @@ use native.Mathlib.Omega.{arith}
 use mathlib.Core.Path.{◌≡◌, refl}
 use mathlib.Core.Bool.{Bool, true, false, ◌&&◌, not}
 use lib.Dec.{ltb}
-use Rattle.base.specs.Choice.{if◌then◌else◌}
+use Rattle.base.specs.Choice.{if◌then◌otherwise◌}
 use Rattle.base.specs.Below.{all_below}
 use Rattle.base.proofs.Choices.{either}
 use Rattle.base.proofs.Loops.{all_same, lowest_same, lowest_none}
@@ -35,7 +35,7 @@ module _ (ready ready' : ℕ → Bool) (rank rank' : ℕ → ℕ) (same-ready : 
 
 -- no slot Ready, slot 0
 pub pick_none : (ready : ℕ → Bool) (rank : ℕ → ℕ) (c : ℕ) → ((i : ℕ) → i < 16 → ready i ≡ false) → 0 ≡ pick ready rank c
-unfolding pick is_best if◌then◌else◌
+unfolding pick is_best if◌then◌otherwise◌
 pick_none ready rank c f =
     let e : distance ready rank c ≡ 16 = lowest_none _ 16 (λ n h. rw (f (slot_after c n) (around_lt c n))) in
     rw e

@@ -5,7 +5,7 @@ use native.Mathlib.Decide.{dec_lt}
 use mathlib.Core.Path.{◌≡◌, refl, sym, ap, ◌∙◌}
 use mathlib.Core.Bool.{true, false, false≢true, ◌&&◌, not}
 use borrow.Author.Tests.{lt-leb, le-ltb, lt-ltb, ltb-true, leb-true, leb-false, eqb-true, eq-eqb, ne_eqb}
-use Rattle.base.specs.Choice.{if◌then◌else◌}
+use Rattle.base.specs.Choice.{if◌then◌otherwise◌}
 use lib.Dec.{ltb, leb}
 use lib.ListN.{length, set, length-set}
 use lib.Seq.{get_or-set_same, get_or-set_other}
@@ -15,11 +15,11 @@ use Rattle.kernel.specs.Types.{TaskId, WaitQueue}
 use Rattle.kernel.specs.WaitQueue.{zero_id, place, waits_at, position, contains, is_full, pushed, enqueued, place_without, without, is_empty, head, popped, removed}
 
 pub popped_length : (q : WaitQueue) → (q.len ≡ 0 → ⊥) → (popped q).len ≡ q.len - 1
-unfolding popped without if◌then◌else◌
+unfolding popped without if◌then◌otherwise◌
 popped_length q h = rw (ne_eqb q.len 0 h)
 
 pub popped_place : (q : WaitQueue) (j : ℕ) → q.len ≤ 8 → j + 1 < q.len → place (popped q) j ≡ place q (j + 1)
-unfolding popped without place_without if◌then◌else◌
+unfolding popped without place_without if◌then◌otherwise◌
 popped_place q j f h = rw (ne_eqb q.len 0 (λ e. omega arith), tabulate_at (place_without q 0) zero_id 8 j (omega arith), lt-leb q.len (j + 1) h, le-ltb j 0 (omega arith))
 
 -- ---- who is in it
@@ -60,7 +60,7 @@ enqueued_keeps q a b e =
 
 -- but the one that is taken out
 without_keeps : (q : WaitQueue) (i : ℕ) (b : TaskId) → i < q.len → ((place q i).0 ≡ b.0 → ⊥) → contains q b ≡ true → contains (without q i) b ≡ true
-unfolding without place_without if◌then◌else◌
+unfolding without place_without if◌then◌otherwise◌
 without_keeps q i b h n e = go (dec_lt j i)
   where
     j : ℕ

@@ -10,7 +10,7 @@ use mathlib.Core.Logic.{◌⊎◌, inl, inr}
 use lib.Dec.{eqb, leb, ltb}
 use lib.ListN.{length}
 use borrow.Author.Tests.{leb-false, le-leb, lt-leb, eqb-true, eq-eqb, ne_eqb, ltb-true, lt-ltb, le-ltb}
-use Rattle.base.specs.Choice.{if◌then◌else◌}
+use Rattle.base.specs.Choice.{if◌then◌otherwise◌}
 use Rattle.base.specs.Below.{count_below, lowest_below, smallest_below}
 use Rattle.base.proofs.Choices.{either, and_right, or_left, or_right}
 use Rattle.base.proofs.Loops.{all_at, count_le, count_fewer, lowest_only, lowest_same, lowest_none, smallest_le, smallest_at, smallest_least, smallest_same, smallest_none, set_each}
@@ -28,12 +28,12 @@ clash e f = absurd (false≢true (sym f ∙ e))
 
 -- one link of a chain: it ends, or goes on
 pub chain_ends : (to : ℕ → ℕ) (n : ℕ) (met : ℕ → Bool) (j : ℕ) → (leb 16 (to j) || met (to j)) ≡ true → chain to n met j ≡ []
-unfolding chain if◌then◌else◌
+unfolding chain if◌then◌otherwise◌
 chain_ends to zero met j e = refl
 chain_ends to (suc n) met j e = rw e
 
 pub chain_more : (to : ℕ → ℕ) (n : ℕ) (met : ℕ → Bool) (j : ℕ) → (leb 16 (to j) || met (to j)) ≡ false → chain to (suc n) met j ≡ to j ∷ chain to n (λ i. met i || eqb i (to j)) (to j)
-unfolding chain if◌then◌else◌
+unfolding chain if◌then◌otherwise◌
 chain_more to n met j e = rw e
 
 pub chain_none : (to : ℕ → ℕ) (n : ℕ) (met : ℕ → Bool) (j : ℕ) → 16 ≤ to j → chain to n met j ≡ []
@@ -65,8 +65,8 @@ chain_first to (suc n) met j z h = go (met (to j)) refl
     go false e = inl (rw (chain_more to n met j (rw (lt-leb 16 (to j) h, e)), eq-eqb (to j) (to j) refl))
 
 -- two chains that end at the same place, and go on alike
-alike : (b : Bool) (x : ℕ) {xs ys : List ℕ} → (b ≡ false → xs ≡ ys) → (if b then [] else x ∷ xs) ≡ (if b then [] else x ∷ ys)
-unfolding if◌then◌else◌
+alike : (b : Bool) (x : ℕ) {xs ys : List ℕ} → (b ≡ false → xs ≡ ys) → (if b then [] otherwise x ∷ xs) ≡ (if b then [] otherwise x ∷ ys)
+unfolding if◌then◌otherwise◌
 alike true x f = refl
 alike false x f = ap (λ c. x ∷ c) (f refl)
 
@@ -183,12 +183,12 @@ empty_contains q a e =
     rw n
 
 no_link : (k : Kernel) → no_queues k ≡ true → (j : ℕ) → link k j ≡ 16
-unfolding link if◌then◌else◌ no_queues
+unfolding link if◌then◌otherwise◌ no_queues
 no_link k e j =
     let n : queued_at k (slot k j).id ≡ 4 = lowest_none _ 4 (λ m h. empty_contains (mutex k m).waiters (slot k j).id (all_at _ 4 m e h)) in
     rw n (off (holds_task Blocked (slot k j)) _)
   where
-    off : (b : Bool) (x : ℕ) → (if b && false then x else 16) ≡ 16
+    off : (b : Bool) (x : ℕ) → (if b && false then x otherwise 16) ≡ 16
     off true x = refl
     off false x = refl
 
@@ -198,13 +198,13 @@ rank_own k e i = smallest_none (leads_to (link k) i) (priority_of k) (priority_o
 
 -- a link goes only from a Blocked task
 pub link_none : (k : Kernel) (j : ℕ) → holds_task Blocked (slot k j) ≡ false → link k j ≡ 16
-unfolding link if◌then◌else◌
+unfolding link if◌then◌otherwise◌
 link_none k j e = rw e
 
 -- and by mutex m, the lowest at which it is queued
 pub link_by : (k : Kernel) (j m : ℕ) → m < 4 → holds_task Blocked (slot k j) ≡ true → contains (mutex k m).waiters (slot k j).id ≡ true → ((n : ℕ) → n < m → contains (mutex k n).waiters (slot k j).id ≡ false)
     → link k j ≡ owner_slot k (mutex k m).owner
-unfolding link if◌then◌else◌
+unfolding link if◌then◌otherwise◌
 link_by k j m h b e f =
     let q : queued_at k (slot k j).id ≡ m = lowest_only (λ n. contains (mutex k n).waiters (slot k j).id) 4 m h e f in
     rw (q, b, lt-ltb m 4 h)

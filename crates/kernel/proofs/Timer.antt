@@ -7,7 +7,7 @@ use mathlib.Core.Path.{◌≡◌, refl, ap}
 use mathlib.Core.Bool.{true, false, not}
 use lib.Dec.{ltb}
 use borrow.Author.Tests.{eq-eqb, ne_eqb, le-leb, lt-leb, lt-ltb, le-ltb}
-use Rattle.base.specs.Choice.{if◌then◌else◌}
+use Rattle.base.specs.Choice.{if◌then◌otherwise◌}
 use Rattle.base.proofs.Choices.{taken, left}
 use Rattle.base.proofs.Loops.{largest_is}
 use Rattle.kernel.specs.Types.{Kernel}
@@ -17,12 +17,12 @@ use Rattle.kernel.specs.Calls.{ticks_to_ms, number}
 use Rattle.kernel.proofs.Whole.{is_whole}
 
 none : (ms hz : ℕ) → ms ≡ 0 → ms_to_ticks ms hz ≡ 0
-unfolding ms_to_ticks if◌then◌else◌
+unfolding ms_to_ticks if◌then◌otherwise◌
 none ms hz z = rw (eq-eqb ms 0 z) refl
 
 -- the tick count where there is something to count
 rounded_up : (ms hz : ℕ) → 0 < hz → (ms ≡ 0 → ⊥) → ms_to_ticks ms hz ≡ (ms * hz + 999) / 1000
-unfolding ms_to_ticks if◌then◌else◌
+unfolding ms_to_ticks if◌then◌otherwise◌
 rounded_up ms hz h n = rw (ne_eqb ms 0 n, ne_eqb hz 0 (λ z. omega arith)) refl
 
 -- no ms above the quotient has a tick count of at most t

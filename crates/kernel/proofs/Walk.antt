@@ -6,7 +6,7 @@ use mathlib.Core.Path.{◌≡◌, refl, ap, ◌∙◌}
 use mathlib.Core.List.{List}
 use lib.ListN.{length, get_or, set, length-set, get_or-eq_default}
 use lib.Seq.{get_or-set_same, get_or-set_other}
-use Rattle.base.specs.Choice.{if◌then◌else◌}
+use Rattle.base.specs.Choice.{if◌then◌otherwise◌}
 use Rattle.base.proofs.Choices.{either}
 use Rattle.kernel.specs.Types.{TaskId, LimitObject, NoLimit, AtSemaphore, AtEvent, TaskControl, Kernel}
 use Rattle.kernel.specs.Update.{with_tasks, with_semaphores, with_events}
@@ -16,7 +16,7 @@ use Rattle.kernel.specs.Scheduler.{is_due, is_limit_due, woken, unqueued, visite
 
 -- past the table's end a slot stays blank
 pub blank_woken : (now : ℕ) → woken now blank_slot ≡ blank_slot
-unfolding woken is_limit_due is_due holds_task if◌then◌else◌
+unfolding woken is_limit_due is_due holds_task if◌then◌otherwise◌
 blank_woken now = refl
 
 -- x is k but for its tasks, semaphores and events, and has as many of each

@@ -1,6 +1,6 @@
 -- Every public call: what refuses it, what it answers and what it does (01, "Where a call is turned back").
 use Rattle.std.specs.Prelude.{ℕ, zero, suc, ◌+◌, ◌*◌, ◌/◌, ◌^◌, ◌-◌, ◌≡◌, Bool, false, ◌&&◌, ◌||◌, not, List, [], ◌∷◌, ◌++◌, eqb, leb, ltb, ℤ, length, get_or, drop}
-use Rattle.base.specs.Choice.{if◌then◌else◌}
+use Rattle.base.specs.Choice.{if◌then◌otherwise◌}
 use Rattle.base.specs.Below.{any_below}
 use Rattle.kernel.specs.Types.{TaskId, Priority, OptionTaskId, None, Some, Terminated, StackRegion, TaskControl, TaskInfo, WaitQueue, Kernel, Value, Nothing, Id, Turn, Region, NoRegion, YesNo, Count, Milliseconds, Load, Answer}
 use Rattle.kernel.specs.Control.{in_state, same_id, state_of, region_fits, sp_in_range, stack_guard_ok, painted, stack_used}
@@ -96,7 +96,7 @@ pub data Check : Type 0 where
 -- the number of the first check that refuses; 0 where none does
 abbrev pub first_of : List Check → ℕ
 first_of [] = 0
-first_of ((n when b) ∷ checks) = if b then n else first_of checks
+first_of ((n when b) ∷ checks) = if b then n otherwise first_of checks
 
 -- every kernel call: 1 kernel not whole ..
 abbrev pub not_whole : Kernel → Check
@@ -226,7 +226,7 @@ value k (wake a) = YesNo (wakes a k)
 value k exit = Nothing
 value k (wait a) = Nothing
 value k (reap a) = Region (slot k (slot_of k a)).stack
-value k reap_one = if ltb (reapable_slot k) 16 then Region (slot k (reapable_slot k)).stack else NoRegion
+value k reap_one = if ltb (reapable_slot k) 16 then Region (slot k (reapable_slot k)).stack otherwise NoRegion
 value k (result a r) = Nothing
 value k (lock m) = YesNo (lock_answer m k)
 value k (try_lock m) = YesNo (not (mutex k m).locked)
@@ -251,7 +251,7 @@ value_number (Id a) = a.0
 value_number (Turn s sp) = s.0
 value_number (Region r) = r.start
 value_number NoRegion = 0xffffffff
-value_number (YesNo b) = if b then 1 else 0
+value_number (YesNo b) = if b then 1 otherwise 0
 value_number (Count n) = n
 value_number (Milliseconds n) = n
 value_number (Load share remainder) = share
@@ -298,11 +298,11 @@ accepted v k = record { number = 0; value = v; kernel = k }
 
 -- nothing is altered where a check refuses the call
 unfoldable pub step : Kernel → Call → Answer
-step k c = if eqb (number k c) 0 then accepted (value k c) (effect k c) else refused (number k c) k
+step k c = if eqb (number k c) 0 then accepted (value k c) (effect k c) otherwise refused (number k c) k
 
 -- the arena's words after an add; every other call keeps them
 unfoldable pub add_words : Kernel → Priority → StackRegion → List ℕ → List ℕ
-add_words k p r arena = if eqb (number k (add arena p r)) 0 then painted r arena else arena
+add_words k p r arena = if eqb (number k (add arena p r)) 0 then painted r arena otherwise arena
 
 abbrev pub task_info : List ℕ → TaskControl → TaskInfo
 task_info arena t = record { id = t.id; state = t.state; priority = t.priority; stack_used = stack_used t.stack arena; stack_total = t.stack.size }
@@ -310,13 +310,13 @@ task_info arena t = record { id = t.id; state = t.state; priority = t.priority; 
 -- the records of the first n slots, in slot order
 unfoldable pub task_infos : Kernel → List ℕ → ℕ → List TaskInfo
 task_infos k arena zero = []
-task_infos k arena (suc n) = if (slot k n).occupied then task_infos k arena n ++ (task_info arena (slot k n) ∷ []) else task_infos k arena n
+task_infos k arena (suc n) = if (slot k n).occupied then task_infos k arena n ++ (task_info arena (slot k n) ∷ []) otherwise task_infos k arena n
 
 -- the records after a list call: later ones keep their contents
 unfoldable pub list_records : Kernel → List ℕ → List TaskInfo → List TaskInfo
 list_records k arena records =
     let infos = task_infos k arena 16 in
-    if eqb (number k (list arena records)) 0 then infos ++ drop (length infos) records else records
+    if eqb (number k (list arena records)) 0 then infos ++ drop (length infos) records otherwise records
 
 -- ---- `init`, 01's fresh
 
@@ -325,10 +325,10 @@ init_number hz words = first_of ((1 when not (arena_fits words)) ∷ (7 when eqb
 
 -- a refused one is the blank kernel
 unfoldable pub init : ℕ → ℕ → Answer
-init hz words = if eqb (init_number hz words) 0 then accepted Nothing (fresh_kernel hz words) else refused (init_number hz words) blank_kernel
+init hz words = if eqb (init_number hz words) 0 then accepted Nothing (fresh_kernel hz words) otherwise refused (init_number hz words) blank_kernel
 
 unfoldable pub init_words : ℕ → List ℕ → List ℕ
-init_words hz arena = if eqb (init_number hz (length arena)) 0 then painted (record { start = 0; size = 8192 }) arena else arena
+init_words hz arena = if eqb (init_number hz (length arena)) 0 then painted (record { start = 0; size = 8192 }) arena otherwise arena
 
 -- ---- lists of calls from fresh
 
@@ -345,4 +345,4 @@ pick_refused states priorities c = not (eqb (length states) 16) || not (eqb (len
 
 -- 255 stands for it
 unfoldable pub pick_bytes : List ℕ → List ℕ → ℕ → ℕ
-pick_bytes states priorities c = if pick_refused states priorities c then 255 else pick (λ i. eqb (get_or states i 0) 0) (λ i. get_or priorities i 0) c
+pick_bytes states priorities c = if pick_refused states priorities c then 255 otherwise pick (λ i. eqb (get_or states i 0) 0) (λ i. get_or priorities i 0) c

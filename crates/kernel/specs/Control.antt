@@ -1,6 +1,6 @@
 -- A task, its slot in the table, and the stretch of the arena that is its stack (task/control.rs).
 use Rattle.std.specs.Prelude.{ℕ, ◌+◌, ◌-◌, ◌*◌, ◌/◌, ◌%◌, Bool, true, false, ◌&&◌, not, List, [], ◌∷◌, ◌++◌, eqb, leb, ltb, pos, length, get_or, take, drop, replicate}
-use Rattle.base.specs.Choice.{if◌then◌else◌, every}
+use Rattle.base.specs.Choice.{if◌then◌otherwise◌, every}
 use Rattle.base.specs.Below.{all_below, lowest_below}
 use Rattle.kernel.specs.Types.{TaskId, Priority, OptionTaskId, None, Some, TaskState, Ready, Running, Blocked, Sleeping, Suspended, Terminated, StackRegion, LimitObject, NoLimit, AtSemaphore, AtEvent, TaskControl}
 use Rattle.kernel.specs.Update.{with_state, with_limit, with_limit_passed}
@@ -19,11 +19,11 @@ state_number Terminated = 5
 unfoldable pub state_of : ℕ → TaskState
 state_of n =
     if eqb n 0 then Ready
-    else if eqb n 1 then Running
-    else if eqb n 2 then Blocked
-    else if eqb n 3 then Sleeping
-    else if eqb n 4 then Suspended
-    else Terminated
+    otherwise if eqb n 1 then Running
+    otherwise if eqb n 2 then Blocked
+    otherwise if eqb n 3 then Sleeping
+    otherwise if eqb n 4 then Suspended
+    otherwise Terminated
 
 abbrev pub in_state : TaskState → TaskControl → Bool
 in_state s t = eqb (state_number t.state) (state_number s)
@@ -64,7 +64,7 @@ has_limit t = is_limit t.limit_object
 
 -- a limit ends, and `limit_passed` says whether by its own tick; without one it stays as it is
 abbrev pub limit_ended : Bool → TaskControl → TaskControl
-limit_ended own t = with_limit_passed (if has_limit t then own else t.limit_passed) (with_limit NoLimit 0 t)
+limit_ended own t = with_limit_passed (if has_limit t then own otherwise t.limit_passed) (with_limit NoLimit 0 t)
 
 -- Every state is entered so, but Ready by a limit's own tick (`expired`): "Any other wake ends the limit, and so does a status, sleep or exit of that task or its blocking once more, or a start or switch that picks it".
 abbrev pub entered : TaskState → TaskControl → TaskControl
@@ -82,7 +82,7 @@ object_fits (AtEvent e) = ltb e 4
 
 -- Blocked becomes Ready, anything else stays
 unfoldable pub unblocked : TaskControl → TaskControl
-unblocked t = if in_state Blocked t then entered Ready t else t
+unblocked t = if in_state Blocked t then entered Ready t otherwise t
 
 -- ---- the region, and the arena's words under it
 

@@ -1,6 +1,6 @@
 -- What a kernel holds, when it is whole, and what it is at first (01, "The machine").
 use Rattle.std.specs.Prelude.{ℕ, ◌+◌, Bool, false, ◌&&◌, ◌||◌, not, [], ◌∷◌, eqb, leb, ltb, get_or, set, replicate}
-use Rattle.base.specs.Choice.{if◌then◌else◌, every}
+use Rattle.base.specs.Choice.{if◌then◌otherwise◌, every}
 use Rattle.base.specs.Below.{all_below, count_below, sum_below, lowest_below}
 use Rattle.kernel.specs.Types.{TaskId, None, Blocked, TaskControl, WaitQueue, Mutex, Semaphore, Event, Kernel}
 use Rattle.kernel.specs.Update.{with_tasks, with_mutexes, with_semaphores, with_events, with_time_slice}
@@ -47,7 +47,7 @@ is_present k a = ltb (slot_of k a) 16
 
 -- f of the task of id a, if it is present
 unfoldable pub at_id : TaskId → (TaskControl → TaskControl) → Kernel → Kernel
-at_id a f k = if is_present k a then at (slot_of k a) f k else k
+at_id a f k = if is_present k a then at (slot_of k a) f k otherwise k
 
 -- Objects are numbered 0 to 3; every object call refuses a number above 3. What stands last in the next three is what the logic reads past an array's end.
 abbrev no_queue : WaitQueue

@@ -1,6 +1,6 @@
 -- What each mutex call does where nothing refuses it (synchronization/mutex.rs).
 use Rattle.std.specs.Prelude.{ℕ, Bool, true, false, ◌&&◌, ◌||◌, not}
-use Rattle.base.specs.Choice.{if◌then◌else◌}
+use Rattle.base.specs.Choice.{if◌then◌otherwise◌}
 use Rattle.kernel.specs.Types.{OptionTaskId, None, Some, Kernel}
 use Rattle.kernel.specs.Control.{names}
 use Rattle.kernel.specs.WaitQueue.{is_empty, head, popped, enqueued}
@@ -28,15 +28,15 @@ blocked_on_mutex m k = with_mutex m (record { locked = (mutex k m).locked; owner
 unfoldable pub lock : ℕ → Kernel → Kernel
 lock m k =
     if not (mutex k m).locked then lock_taken (mutex k m).handoff_to m k
-    else if owns_mutex k m && is_handed k m then handoff_done m k
-    else blocked_on_mutex m k
+    otherwise if owns_mutex k m && is_handed k m then handoff_done m k
+    otherwise blocked_on_mutex m k
 
 -- lock's answer: it was unlocked, or it was handed to current
 unfoldable pub lock_answer : ℕ → Kernel → Bool
 lock_answer m k = not (mutex k m).locked || owns_mutex k m && is_handed k m
 
 unfoldable pub try_lock : ℕ → Kernel → Kernel
-try_lock m k = if (mutex k m).locked then k else lock_taken None m k
+try_lock m k = if (mutex k m).locked then k otherwise lock_taken None m k
 
 -- handed to the head waiter, which is woken
 abbrev pub handed_off : ℕ → Kernel → Kernel
@@ -51,4 +51,4 @@ lock_freed m k = with_mutex m (record { locked = false; owner = None; handoff_to
 unfoldable pub unlock : ℕ → Kernel → Kernel
 unlock m k =
     let k₁ = owned_down (current_task_id k) k in
-    if is_empty (mutex k m).waiters then lock_freed m k₁ else handed_off m k₁
+    if is_empty (mutex k m).waiters then lock_freed m k₁ otherwise handed_off m k₁

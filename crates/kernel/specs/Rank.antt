@@ -1,6 +1,6 @@
 -- A Blocked task that is queued at a mutex passes its number on to the owner (02, W-205). Ranks are worked out from the kernel, and not kept in it.
 use Rattle.std.specs.Prelude.{ℕ, zero, suc, Bool, false, ◌&&◌, ◌||◌, List, [], ◌∷◌, eqb, leb, ltb}
-use Rattle.base.specs.Choice.{if◌then◌else◌}
+use Rattle.base.specs.Choice.{if◌then◌otherwise◌}
 use Rattle.base.specs.Below.{all_below, lowest_below, smallest_below}
 use Rattle.kernel.specs.Types.{TaskId, OptionTaskId, None, Some, Blocked, Kernel}
 use Rattle.kernel.specs.Control.{holds_task}
@@ -27,7 +27,7 @@ queued_at k a = lowest_below (λ m. contains (mutex k m).waiters a) 4
 unfoldable pub link : Kernel → ℕ → ℕ
 link k j =
     let m = queued_at k (slot k j).id in
-    if holds_task Blocked (slot k j) && ltb m 4 then owner_slot k (mutex k m).owner else 16
+    if holds_task Blocked (slot k j) && ltb m 4 then owner_slot k (mutex k m).owner otherwise 16
 
 -- no mutex has a queue; then there are no links
 unfoldable pub no_queues : Kernel → Bool
@@ -39,7 +39,7 @@ no_queues k = all_below (λ m. is_empty (mutex k m).waiters) 4
 -- links `to`; `met` are the slots that it has met.
 unfoldable pub chain : (ℕ → ℕ) → ℕ → (ℕ → Bool) → ℕ → List ℕ
 chain to zero met j = []
-chain to (suc n) met j = if leb 16 (to j) || met (to j) then [] else to j ∷ chain to n (λ i. met i || eqb i (to j)) (to j)
+chain to (suc n) met j = if leb 16 (to j) || met (to j) then [] otherwise to j ∷ chain to n (λ i. met i || eqb i (to j)) (to j)
 
 abbrev pub is_in : ℕ → List ℕ → Bool
 is_in i [] = false

@@ -1,6 +1,6 @@
 -- What each call on the scheduler does where nothing refuses it (sched/scheduler.rs).
 use Rattle.std.specs.Prelude.{ℕ, zero, suc, ◌+◌, ◌-◌, ◌%◌, ◌^◌, min, Bool, true, false, ◌&&◌, ◌||◌, not, eqb, leb, ltb, ℤ, set}
-use Rattle.base.specs.Choice.{if◌then◌else◌}
+use Rattle.base.specs.Choice.{if◌then◌otherwise◌}
 use Rattle.base.specs.Below.{all_below, any_below, lowest_below}
 use Rattle.kernel.specs.Types.{TaskId, Priority, OptionTaskId, None, Some, TaskState, Ready, Running, Blocked, Sleeping, Terminated, StackRegion, LimitObject, NoLimit, AtSemaphore, AtEvent, TaskControl, WaitQueue, Kernel}
 use Rattle.kernel.specs.Update.{with_limit, with_wake_tick, with_remaining, with_owned, with_waiter, with_sp, with_result, with_tasks, with_charges, with_retired_charge, with_tick_count, with_started, with_current, with_task_count, with_next_id}
@@ -27,7 +27,7 @@ module _ (ready : ℕ → Bool) (number : ℕ → ℕ) where
 
   -- the first such slot from c + 1 cyclically; none Ready, slot 0
   unfoldable pub pick : ℕ → ℕ
-  pick c = if ltb (distance c) 16 then slot_after c (distance c) else 0
+  pick c = if ltb (distance c) 16 then slot_after c (distance c) otherwise 0
 
 abbrev pub is_ready : Kernel → ℕ → Bool
 is_ready k i = holds_task Ready (slot k i)
@@ -75,7 +75,7 @@ exit k = wake_waiter (current_task k).waiter (at (current k) terminated k)
 
 -- a Terminated target changes nothing; otherwise current is its waiter, and Blocked
 unfoldable pub wait : TaskId → Kernel → Kernel
-wait a k = if in_state Terminated (slot k (slot_of k a)) then k else block (at (slot_of k a) (with_waiter (Some (current_task_id k))) k)
+wait a k = if in_state Terminated (slot k (slot_of k a)) then k otherwise block (at (slot_of k a) (with_waiter (Some (current_task_id k))) k)
 
 -- "Reaping moves it into one retired sum" (02, W-206): slot i's charge is added to the sum, and 0 is left in the slot
 abbrev pub charge_retired : ℕ → Kernel → Kernel
@@ -90,7 +90,7 @@ unfoldable pub reapable_slot : Kernel → ℕ
 reapable_slot k = lowest_below (λ i. leb 1 i && not (eqb i (current k)) && holds_task Terminated (slot k i)) 16
 
 unfoldable pub reap_one : Kernel → Kernel
-reap_one k = if ltb (reapable_slot k) 16 then emptied (reapable_slot k) k else k
+reap_one k = if ltb (reapable_slot k) 16 then emptied (reapable_slot k) k otherwise k
 
 abbrev pub set_result : TaskId → ℤ → Kernel → Kernel
 set_result a r k = at_id a (with_result r) k
@@ -115,7 +115,7 @@ unfoldable pub drop_heads : ℕ → WaitQueue → Kernel → Waking
 drop_heads zero q k = record { waiters = q; kernel = k; woke = false }
 drop_heads (suc n) q k =
     if wakes (head q) k then record { waiters = popped q; kernel = wake (head q) k; woke = true }
-    else drop_heads n (popped q) k
+    otherwise drop_heads n (popped q) k
 
 abbrev pub wake_one : WaitQueue → Kernel → Waking
 wake_one q k = drop_heads q.len q k
@@ -150,7 +150,7 @@ is_limit_due now t = t.occupied && has_limit t && leb t.limit_tick now
 
 -- what the walk of a tick makes of a task
 unfoldable pub woken : ℕ → TaskControl → TaskControl
-woken now t = if is_limit_due now t then expired t else if is_due now t then entered Ready t else t
+woken now t = if is_limit_due now t then expired t otherwise if is_due now t then entered Ready t otherwise t
 
 -- id a out of that object's queue wherever it stands, at its first place; a queue without it stays
 abbrev pub unqueued : LimitObject → TaskId → Kernel → Kernel
@@ -160,7 +160,7 @@ unqueued (AtEvent e) a k = with_event e (record { signaled = (event k e).signale
 
 -- slot i at a tick, against the queues as they then are
 unfoldable pub visited : ℕ → ℕ → Kernel → Kernel
-visited now i k = at i (woken now) (if is_limit_due now (slot k i) then unqueued (slot k i).limit_object (slot k i).id k else k)
+visited now i k = at i (woken now) (if is_limit_due now (slot k i) then unqueued (slot k i).limit_object (slot k i).id k otherwise k)
 
 -- the walk over the first n slots, one after another
 unfoldable pub walked : ℕ → ℕ → Kernel → Kernel
@@ -169,12 +169,12 @@ walked now (suc n) k = visited now n (walked now n k)
 
 -- one tick off the slice, not below 0; at 0 it becomes time_slice
 abbrev pub spent : TaskControl → TaskControl
-spent t = if eqb (t.remaining_slice - 1) 0 then with_remaining t.time_slice t else with_remaining (t.remaining_slice - 1) t
+spent t = if eqb (t.remaining_slice - 1) 0 then with_remaining t.time_slice t otherwise with_remaining (t.remaining_slice - 1) t
 
 -- tick_count up, and the charge of current up if started
 unfoldable pub clocked : Kernel → Kernel
 clocked k =
-    let charges = if k.started then set k.charges (current k) (charge k (current k) + 1) else k.charges in
+    let charges = if k.started then set k.charges (current k) (charge k (current k) + 1) otherwise k.charges in
     with_tick_count (k.tick_count + 1) (with_charges charges k)
 
 -- 01 raises tick_count first; the walk goes by the raised one and alters only tasks and queues, so the order does not show
@@ -186,7 +186,7 @@ current_runs k = in_state Running (current_task k)
 
 -- if current runs, one tick off its slice
 unfoldable pub sliced : Kernel → Kernel
-sliced k = if k.started && current_runs k then at (current k) spent k else k
+sliced k = if k.started && current_runs k then at (current k) spent k otherwise k
 
 -- `update_tick`
 unfoldable pub tick : Kernel → Kernel
@@ -196,8 +196,8 @@ tick k = sliced (advanced k)
 unfoldable pub wants : Bool → Kernel → Bool
 wants woke k =
     if not k.started then false
-    else if not (current_runs k) then true
-    else woke || eqb ((current_task k).remaining_slice - 1) 0
+    otherwise if not (current_runs k) then true
+    otherwise woke || eqb ((current_task k).remaining_slice - 1) 0
 
 unfoldable pub wants_switch : Kernel → Bool
 wants_switch k =
@@ -216,10 +216,10 @@ start k = dispatched (next_task k) (λ t. t) (with_started true k)
 
 -- current's sp stored, Running made Ready
 unfoldable pub context_saved : ℕ → TaskControl → TaskControl
-context_saved sp t = if in_state Running t then entered Ready (with_sp sp t) else with_sp sp t
+context_saved sp t = if in_state Running t then entered Ready (with_sp sp t) otherwise with_sp sp t
 
 unfoldable pub reloaded : TaskControl → TaskControl
-reloaded t = if eqb t.remaining_slice 0 then with_remaining t.time_slice t else t
+reloaded t = if eqb t.remaining_slice 0 then with_remaining t.time_slice t otherwise t
 
 abbrev pub save_context : ℕ → Kernel → Kernel
 save_context sp k = at (current k) (context_saved sp) k

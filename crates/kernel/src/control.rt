@@ -1,6 +1,6 @@
 // Tasks and their slots in the table: task/control.rs of the source.
 ghost use Rattle.std.specs.Prelude.{◌≡◌};
-ghost use Rattle.base.specs.Choice.{if◌then◌else◌};
+ghost use Rattle.base.specs.Choice.{if◌then◌otherwise◌};
 ghost use Rattle.kernel.specs.Update.{with_state, with_waiter, with_time_slice, with_limit};
 ghost use Rattle.kernel.specs.Control.{state_number, in_state, same_id, names, is_limit, has_limit, object_fits, limit_ended, entered, expired, blank_slot};
 
@@ -226,7 +226,7 @@ impl TaskControl {
 
     // `limit_passed` once a limit has ended, by its own tick or not; without one it stays.
     fn passed(self, own: bool) -> bool
-        ensures { result ≡ (if has_limit self then own else self.limit_passed) }
+        ensures { result ≡ (if has_limit self then own otherwise self.limit_passed) }
     {
         let object = self.limit_object;
         if object.is_limit() {

@@ -11,7 +11,7 @@ use lib.Dec.{eqb, leb, ltb}
 use lib.ListN.{length, get_or, set, replicate, get_or-eq_default}
 use lib.Seq.{get_or-set_same, get_or-set_other}
 use borrow.Author.Tests.{ltb-true, lt-ltb, le-ltb, le-leb, lt-leb, eq-eqb, ne_eqb}
-use Rattle.base.specs.Choice.{if◌then◌else◌}
+use Rattle.base.specs.Choice.{if◌then◌otherwise◌}
 use Rattle.base.specs.Below.{smallest_below, tabulate}
 use Rattle.base.proofs.Choices.{either}
 use Rattle.base.proofs.Loops.{lowest_le, smallest_same, tabulate_length, tabulate_at}
@@ -49,7 +49,7 @@ met_more met y x h = go (ℕ_discrete x y)
 -- a walk that ends passes on to nobody
 module _ (links : List ℕ) (met : List Bool) (ranks : List ℕ) (number j left i : ℕ) where
   walk_ends : chain (link_at links) left (λ x. get_or met x false) j ≡ [] → get_or ranks i 0 ≡ inherited_by links met ranks number j left i
-  unfolding if◌then◌else◌ inherited_by
+  unfolding if◌then◌otherwise◌ inherited_by
   walk_ends e = rw e
 
   pub walk_none : left ≡ 0 → get_or ranks i 0 ≡ inherited_by links met ranks number j left i
@@ -66,21 +66,21 @@ module _ (links : List ℕ) (met : List Bool) (ranks : List ℕ) (number j left 
       on false = refl
 
 -- the number taken once or twice
-twice : (b : Bool) (x n : ℕ) → (if b then min (min x n) n else min x n) ≡ min x n
-unfolding if◌then◌else◌
+twice : (b : Bool) (x n : ℕ) → (if b then min (min x n) n otherwise min x n) ≡ min x n
+unfolding if◌then◌otherwise◌
 twice true x n = omega arith
 twice false x n = refl
 
 pub walk_more : (links : List ℕ) (met : List Bool) (ranks : List ℕ) (number j left i y : ℕ) → y ≡ min (get_or ranks (get_or links j 0) 0) number → length met ≡ 16 → length ranks ≡ 16
     → (left ≡ 0 → ⊥) → get_or links j 0 < 16 → get_or met (get_or links j 0) false ≡ false
     → inherited_by links (set met (get_or links j 0) true) (set ranks (get_or links j 0) y) number (get_or links j 0) (left - 1) i ≡ inherited_by links met ranks number j left i
-unfolding if◌then◌else◌ inherited_by
+unfolding if◌then◌otherwise◌ inherited_by
 walk_more links met ranks number j zero i y q lm lr f h e = absurd (f refl)
 walk_more links met ranks number j (suc n) i y q lm lr f h e =
     rw (chain_more (link_at links) n (λ x. get_or met x false) j (rw (lt-leb 16 (get_or links j 0) h, e)), sub-one (suc n), chain_same (link_at links) (link_at links) n (λ x. get_or (set met (get_or links j 0) true) x false) (λ x. get_or met x false || eqb x (get_or links j 0)) (get_or links j 0) (λ _ _. refl) (λ x _. met_more met (get_or links j 0) x (omega arith)) h)
     (go (is_in i (chain (link_at links) n (λ x. get_or met x false || eqb x (get_or links j 0)) (get_or links j 0))) (ℕ_discrete i (get_or links j 0)))
   where
-    go : (rest : Bool) → Dec (i ≡ get_or links j 0) → (if rest then min (get_or (set ranks (get_or links j 0) y) i 0) number else get_or (set ranks (get_or links j 0) y) i 0) ≡ (if eqb (get_or links j 0) i || rest then min (get_or ranks i 0) number else get_or ranks i 0)
+    go : (rest : Bool) → Dec (i ≡ get_or links j 0) → (if rest then min (get_or (set ranks (get_or links j 0) y) i 0) number otherwise get_or (set ranks (get_or links j 0) y) i 0) ≡ (if eqb (get_or links j 0) i || rest then min (get_or ranks i 0) number otherwise get_or ranks i 0)
     go rest (yes g) = rw (← g, get_or-set_same ranks i y 0 (omega arith), eq-eqb i i refl, q, ← g) (twice rest (get_or ranks i 0) number)
     go rest (no g) = rw (get_or-set_other ranks (get_or links j 0) i y 0 g, ne_eqb (get_or links j 0) i (λ s. g (sym s)))
 
@@ -94,11 +94,11 @@ all_false (suc n) (suc x) = all_false n x
 pub walk_from : (links ranks : List ℕ) (number j i r : ℕ) → j < 16 → r ≡ inherited_by links (set (replicate 16 false) j true) ranks number j 16 i → r ≡ inherited_from links ranks number j i
 unfolding inherited_by inherited_from leads_to
 walk_from links ranks number j i r h e =
-    e ∙ ap (λ c. if is_in i c then min (get_or ranks i 0) number else get_or ranks i 0)
+    e ∙ ap (λ c. if is_in i c then min (get_or ranks i 0) number otherwise get_or ranks i 0)
     (chain_same (link_at links) (link_at links) 16 _ (λ x. eqb x j) j (λ _ _. refl) (λ x _. met_more (replicate 16 false) j x (omega arith) ∙ ap (λ b. b || eqb x j) (all_false 16 x)) h)
 
 pub no_walk : (links ranks : List ℕ) (number j i : ℕ) → 16 ≤ get_or links j 0 → get_or ranks i 0 ≡ inherited_from links ranks number j i
-unfolding inherited_from if◌then◌else◌
+unfolding inherited_from if◌then◌otherwise◌
 no_walk links ranks number j i h = rw (leads_none (link_at links) i j h)
 
 pub inherited_none : (links own : List ℕ) → length own ≡ 16 → Inherited links own own 0
@@ -135,26 +135,26 @@ links_slots k links e = record { slots = λ j. rw e (go j (dec_lt j 16)) }
 
 module _ (t : TaskControl) (ms : List Mutex) (owners : List ℕ) where
   pub link_not : holds_task Blocked t ≡ false → 16 ≡ link_of t ms owners
-  unfolding link_of if◌then◌else◌
+  unfolding link_of if◌then◌otherwise◌
   link_not e = rw e
 
   pub link_off : (m : ℕ) → m ≡ queued_of ms t.id → 4 ≤ m → 16 ≡ link_of t ms owners
-  unfolding link_of if◌then◌else◌
+  unfolding link_of if◌then◌otherwise◌
   link_off m e h = rw (← e, le-ltb m 4 h) (go (holds_task Blocked t))
     where
-      go : (b : Bool) → 16 ≡ (if b && false then get_or owners m 0 else 16)
+      go : (b : Bool) → 16 ≡ (if b && false then get_or owners m 0 otherwise 16)
       go true = refl
       go false = refl
 
   pub link_on : (m : ℕ) → holds_task Blocked t ≡ true → m ≡ queued_of ms t.id → m < 4 → get_or owners m 0 ≡ link_of t ms owners
-  unfolding link_of if◌then◌else◌
+  unfolding link_of if◌then◌otherwise◌
   link_on m b e h = rw (← e, lt-ltb m 4 h, b)
 
 pub link_is : (k : Kernel) (j : ℕ) (owners : List ℕ) (r : ℕ) → owners ≡ tabulate (λ m. owner_slot k (mutex k m).owner) 4 → r ≡ link_of (slot k j) k.mutexes owners → r ≡ link k j
-unfolding link link_of queued_of if◌then◌else◌
+unfolding link link_of queued_of if◌then◌otherwise◌
 link_is k j owners r f e = e ∙ go (holds_task Blocked (slot k j)) (ltb (queued_at k (slot k j).id) 4) refl
   where
-    go : (h x : Bool) → ltb (queued_at k (slot k j).id) 4 ≡ x → (if h && x then get_or owners (queued_at k (slot k j).id) 0 else 16) ≡ (if h && x then owner_slot k (mutex k (queued_at k (slot k j).id)).owner else 16)
+    go : (h x : Bool) → ltb (queued_at k (slot k j).id) 4 ≡ x → (if h && x then get_or owners (queued_at k (slot k j).id) 0 otherwise 16) ≡ (if h && x then owner_slot k (mutex k (queued_at k (slot k j).id)).owner otherwise 16)
     go true true q = rw f (tabulate_at (λ m. owner_slot k (mutex k m).owner) 0 4 (queued_at k (slot k j).id) (ltb-true _ 4 q))
     go true false q = refl
     go false x q = refl

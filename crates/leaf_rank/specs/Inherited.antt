@@ -1,6 +1,6 @@
 -- What the arrays stand for on the way to the ranks.
 use Rattle.std.specs.Prelude.{ℕ, ◌≤◌, ◌<◌, min, ◌≡◌, Bool, false, ◌&&◌, List, [], ltb, length, get_or}
-use Rattle.base.specs.Choice.{if◌then◌else◌}
+use Rattle.base.specs.Choice.{if◌then◌otherwise◌}
 use Rattle.base.specs.Below.{lowest_below, smallest_below}
 use Rattle.kernel.specs.declared.control.TaskId.{TaskId}
 use Rattle.kernel.specs.declared.control.TaskControl.{TaskControl}
@@ -20,7 +20,7 @@ unfoldable pub queued_of : List Mutex → TaskId → ℕ
 queued_of ms a = lowest_below (λ m. contains (mutex_of ms m).waiters a) 4
 
 unfoldable pub link_of : TaskControl → List Mutex → List ℕ → ℕ
-link_of t ms owners = if holds_task Blocked t && ltb (queued_of ms t.id) 4 then get_or owners (queued_of ms t.id) 0 else 16
+link_of t ms owners = if holds_task Blocked t && ltb (queued_of ms t.id) 4 then get_or owners (queued_of ms t.id) 0 otherwise 16
 
 -- ---- chains
 
@@ -40,11 +40,11 @@ link_at links j = get_or links j 0
 unfoldable pub inherited_by : List ℕ → List Bool → List ℕ → ℕ → ℕ → ℕ → ℕ → ℕ
 inherited_by links met ranks number j left i =
     if is_in i (chain (link_at links) left (λ x. get_or met x false) j) then min (get_or ranks i 0) number
-    else get_or ranks i 0
+    otherwise get_or ranks i 0
 
 -- the same of the whole chain
 unfoldable pub inherited_from : List ℕ → List ℕ → ℕ → ℕ → ℕ → ℕ
-inherited_from links ranks number j i = if leads_to (link_at links) i j then min (get_or ranks i 0) number else get_or ranks i 0
+inherited_from links ranks number j i = if leads_to (link_at links) i j then min (get_or ranks i 0) number otherwise get_or ranks i 0
 
 -- the ranks once the numbers of the first n slots were passed on
 pub record Inherited (links own ranks : List ℕ) (n : ℕ) : Type 0 where

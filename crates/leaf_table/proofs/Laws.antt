@@ -6,7 +6,7 @@ use mathlib.Core.Bool.{true, false, not}
 use mathlib.Core.List.{List, [], ◌∷◌}
 use lib.Dec.{ltb}
 use borrow.Author.Tests.{lt-ltb, le-ltb, ltb-false}
-use Rattle.base.specs.Choice.{if◌then◌else◌}
+use Rattle.base.specs.Choice.{if◌then◌otherwise◌}
 use Rattle.base.proofs.Choices.{not_clear, and_left, either}
 use Rattle.kernel.specs.declared.control.TaskId.{TaskId}
 use Rattle.kernel.specs.declared.control.TaskState.TheVariants.{Ready}
@@ -27,13 +27,13 @@ pub present : (b r n : ℕ) → r ≡ b → r < n → not (ltb b n) ≡ false
 present b r n e h = rw (← e, lt-ltb r n h)
 
 -- s is what `blocked_slot` found
-pub slot_tells : (k : Kernel) (a : TaskId) (s : ℕ) → s ≡ (if wakes a k then slot_of k a else 16) → ltb s 16 ≡ wakes a k
+pub slot_tells : (k : Kernel) (a : TaskId) (s : ℕ) → s ≡ (if wakes a k then slot_of k a otherwise 16) → ltb s 16 ≡ wakes a k
 slot_tells k a s e = rw e (either (λ i. ltb i 16 ≡ wakes a k) (wakes a k) (λ t. and_left _ _ t ∙ sym t) (λ f. sym f))
 
-pub slot_wakes : (k : Kernel) (a : TaskId) (s : ℕ) → s ≡ (if wakes a k then slot_of k a else 16) → (if ltb s 16 then at s (entered Ready) k else k) ≡ wake a k
-unfolding if◌then◌else◌
+pub slot_wakes : (k : Kernel) (a : TaskId) (s : ℕ) → s ≡ (if wakes a k then slot_of k a otherwise 16) → (if ltb s 16 then at s (entered Ready) k otherwise k) ≡ wake a k
+unfolding if◌then◌otherwise◌
 slot_wakes k a s e =
-    rw e (either (λ i. (if ltb i 16 then at i (entered Ready) k else k) ≡ wake a k) (wakes a k)
+    rw e (either (λ i. (if ltb i 16 then at i (entered Ready) k otherwise k) ≡ wake a k) (wakes a k)
     (λ t. let found : ltb (slot_of k a) 16 ≡ true = and_left _ _ t in rw found (rw t at (wake_is a k)))
     (λ f. rw f at (wake_is a k)))
 

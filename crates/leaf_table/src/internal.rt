@@ -2,7 +2,7 @@
 pub mod answer;
 
 ghost use Rattle.std.specs.Prelude.{◌≡◌, ◌≤◌, ◌<◌, [], ◌∷◌};
-ghost use Rattle.base.specs.Choice.{if◌then◌else◌};
+ghost use Rattle.base.specs.Choice.{if◌then◌otherwise◌};
 ghost use Rattle.kernel.specs.Control.{unblocked};
 ghost use Rattle.kernel.specs.Kernel.{slot, current, current_task, current_task_id, slot_of, whole};
 ghost use Rattle.kernel.specs.Calls.{first_of, not_whole, no_object, not_started};
@@ -102,7 +102,7 @@ pub fn wake(mut k: Kernel, id: TaskId) -> Kernel
 
 // The slot of that id if the task there is Blocked; 16 elsewhere.
 pub fn blocked_slot(k: Kernel, id: TaskId) -> usize
-    ensures { result ≡ (if wakes id k then slot_of k id else 16) }
+    ensures { result ≡ (if wakes id k then slot_of k id otherwise 16) }
 {
     let i = slot_of(k, id);
     if Kernel::MAX_TASKS <= i {

@@ -1,6 +1,6 @@
 -- What `wake_one` hands on to a release or a signal.
 use Rattle.std.specs.Prelude.{◌≡◌, ltb}
-use Rattle.base.specs.Choice.{if◌then◌else◌}
+use Rattle.base.specs.Choice.{if◌then◌otherwise◌}
 use Rattle.kernel.specs.declared.control.TaskState.TheVariants.{Ready}
 use Rattle.kernel.specs.declared.wait_queue.WaitQueue.{WaitQueue}
 use Rattle.kernel.specs.declared.scheduler.Kernel.{Kernel}
@@ -12,5 +12,5 @@ use Rattle.leaf_wake.specs.declared.internal.Woken.{Woken}
 -- w is what `wake_one` makes of queue q and kernel k: the waiters that are left, and the slot that is to be made Ready, 16 where none was woken
 pub record WakesOne (w : Woken) (q : WaitQueue) (k : Kernel) : Type 0 where
   pub waiters : w.waiters ≡ (wake_one q k).waiters
-  pub kernel : (if ltb w.slot 16 then at w.slot (entered Ready) k else k) ≡ (wake_one q k).kernel
+  pub kernel : (if ltb w.slot 16 then at w.slot (entered Ready) k otherwise k) ≡ (wake_one q k).kernel
   pub woke : ltb w.slot 16 ≡ (wake_one q k).woke

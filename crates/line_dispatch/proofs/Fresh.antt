@@ -3,7 +3,7 @@ use Prim.Native.Nat.{ℕ}
 use mathlib.Core.Path.{◌≡◌, refl, sym, ap, ◌∙◌}
 use lib.Dec.{eqb}
 use borrow.Author.Tests.{eqb-true, eq-eqb, ne_eqb}
-use Rattle.base.specs.Choice.{if◌then◌else◌}
+use Rattle.base.specs.Choice.{if◌then◌otherwise◌}
 use Rattle.base.proofs.Choices.{either, taken, left}
 use Rattle.kernel.specs.declared.scheduler.Kernel.{Kernel}
 use Rattle.kernel.specs.declared.scheduler.Value.{Value}
@@ -14,7 +14,7 @@ use Rattle.kernel.specs.Calls.{Call, number, value, effect, step, accepted, refu
 use Rattle.line_dispatch.specs.Dispatch.{fresh_for}
 
 -- the answer of an accepted call, or of one that was refused with n
-number_is : (n : ℕ) (v : Value) (k k' : Kernel) → (if eqb n 0 then accepted v k else refused n k').number ≡ n
+number_is : (n : ℕ) (v : Value) (k k' : Kernel) → (if eqb n 0 then accepted v k otherwise refused n k').number ≡ n
 number_is n v k k' = either (λ (a : Answer). a.number ≡ n) (eqb n 0) (λ e. sym (eqb-true n 0 e)) (λ _. refl)
 
 pub step_number : (k : Kernel) (c : Call) → (step k c).number ≡ number k c

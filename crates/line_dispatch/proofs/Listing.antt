@@ -7,7 +7,7 @@ use mathlib.Core.List.{List, [], ◌∷◌, ◌++◌, append_assoc, append-nil}
 use lib.Dec.{eqb, ltb}
 use lib.ListN.{length, drop, get_or, length-replicate, get_or-append}
 use borrow.Author.Tests.{ltb-true, lt-ltb, eq-eqb, ne_eqb}
-use Rattle.base.specs.Choice.{if◌then◌else◌}
+use Rattle.base.specs.Choice.{if◌then◌otherwise◌}
 use Rattle.base.proofs.Choices.{taken, left, same_test}
 use Rattle.kernel.specs.declared.control.TaskInfo.{TaskInfo}
 use Rattle.kernel.specs.declared.scheduler.Kernel.{Kernel}
@@ -30,21 +30,21 @@ same_room : (room tasks : ℕ) → tasks ≤ 16 → ltb (min room 16) tasks ≡ 
 same_room room tasks h = same_test _ _ (λ e. lt-ltb room tasks (omega (arith, ltb-true (min room 16) tasks e))) (λ e. lt-ltb (min room 16) tasks (omega (arith, ltb-true room tasks e)))
 
 -- the number of a list call on that many records
-numbered : (k : Kernel) (arena : List ℕ) (room : ℕ) → number k (list arena (blank_records room)) ≡ (if not (whole k) then 1 else first_of (other_length k arena ∷ (21 when ltb room k.task_count) ∷ []))
+numbered : (k : Kernel) (arena : List ℕ) (room : ℕ) → number k (list arena (blank_records room)) ≡ (if not (whole k) then 1 otherwise first_of (other_length k arena ∷ (21 when ltb room k.task_count) ∷ []))
 unfolding number
 numbered k arena room = rw (length-replicate room blank_info) refl
 
 same_number : (k : Kernel) (arena : List ℕ) (room : ℕ) → number k (list arena (blank_records (min room 16))) ≡ number k (list arena (blank_records room))
-unfolding if◌then◌else◌
+unfolding if◌then◌otherwise◌
 same_number k arena room = numbered k arena (min room 16) ∙ by_cases (whole k) refl ∙ sym (numbered k arena room)
   where
-    by_cases : (w : Bool) → whole k ≡ w → (if not w then 1 else first_of (other_length k arena ∷ (21 when ltb (min room 16) k.task_count) ∷ [])) ≡ (if not w then 1 else first_of (other_length k arena ∷ (21 when ltb room k.task_count) ∷ []))
+    by_cases : (w : Bool) → whole k ≡ w → (if not w then 1 otherwise first_of (other_length k arena ∷ (21 when ltb (min room 16) k.task_count) ∷ [])) ≡ (if not w then 1 otherwise first_of (other_length k arena ∷ (21 when ltb room k.task_count) ∷ []))
     by_cases true e = rw (same_room room k.task_count (is_whole k e).tasks) refl
     by_cases false e = refl
 
 pub same_answer : (k : Kernel) (arena : List ℕ) (room : ℕ) → list_answer k arena (min room 16) ≡ list_answer k arena room
 unfolding step value effect
-same_answer k arena room = ap (λ (n : ℕ). if eqb n 0 then accepted (Count k.task_count) k else refused n k) (same_number k arena room)
+same_answer k arena room = ap (λ (n : ℕ). if eqb n 0 then accepted (Count k.task_count) k otherwise refused n k) (same_number k arena room)
 
 -- the number that it returned
 pub answered_number : (k : Kernel) (arena : List ℕ) (room : ℕ) (a : Answer) → a ≡ list_answer k arena (min room 16) → a.number ≡ number k (list arena (blank_records room))

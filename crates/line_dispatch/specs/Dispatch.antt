@@ -1,6 +1,6 @@
 -- What a frame asks for, and what is answered (01, "Program `turns`"; README, "The operations").
 use Rattle.std.specs.Prelude.{ℕ, ◌-◌, ◌*◌, ◌/◌, ◌%◌, ◌^◌, min, List, [], eqb, ltb, ℤ, pos, negsuc, length, set, replicate}
-use Rattle.base.specs.Choice.{if◌then◌else◌}
+use Rattle.base.specs.Choice.{if◌then◌otherwise◌}
 use Rattle.kernel.specs.declared.control.Priority.{Priority}
 use Rattle.kernel.specs.declared.control.StackRegion.{StackRegion}
 use Rattle.kernel.specs.declared.control.TaskId.{TaskId}
@@ -42,11 +42,11 @@ id_of y = record { 0 = y }
 
 -- 80 to ff stand for -128 to -1
 unfoldable pub signed_byte : ℕ → ℤ
-signed_byte k = if ltb k 128 then pos k else negsuc (255 - k)
+signed_byte k = if ltb k 128 then pos k otherwise negsuc (255 - k)
 
 -- what a word becomes: 0, or for 1 the paint
 unfoldable pub word_of : ℕ → ℕ
-word_of k = if eqb k 0 then 0 else paint
+word_of k = if eqb k 0 then 0 otherwise paint
 
 -- y × 2^k; a line with k above 32 is malformed (`inRange`), and would count here as 32
 unfoldable pub ticks_of : ℕ → ℕ → ℕ
@@ -100,7 +100,7 @@ list_answer k arena room = step k (list arena (blank_records room))
 
 -- a refused fresh leaves the kernel
 abbrev pub fresh_for : Kernel → ℕ → ℕ → Answer
-fresh_for k hz words = if eqb (init_number hz words) 0 then init hz words else refused (init_number hz words) k
+fresh_for k hz words = if eqb (init_number hz words) 0 then init hz words otherwise refused (init_number hz words) k
 
 -- a line that is none of the notation is refused with ff
 abbrev pub answered : Kernel → List ℕ → Request → Answer
@@ -133,7 +133,7 @@ words_after k arena f = words_of k arena (request_in k arena f)
 unfoldable pub list_adds : Kernel → List ℕ → ℕ → List ℕ
 list_adds k arena room =
     let records = blank_records room in
-    if eqb (number k (list arena records)) 0 then list_text k.task_count (list_records k arena records) else []
+    if eqb (number k (list arena records)) 0 then list_text k.task_count (list_records k arena records) otherwise []
 
 abbrev pub added_by : Kernel → List ℕ → Request → List ℕ
 added_by k arena none = []

@@ -1,6 +1,6 @@
 // A frame played on a kernel. Where `known` is true the caller knows that the kernel is whole, so it is not looked at again.
 ghost use Rattle.std.specs.Prelude.{◌≡◌, true, ◌||◌, not, ◌+◌, ◌≤◌, eqb, length, set};
-ghost use Rattle.base.specs.Choice.{if◌then◌else◌};
+ghost use Rattle.base.specs.Choice.{if◌then◌otherwise◌};
 ghost use Rattle.kernel.specs.Kernel.{whole};
 ghost use Rattle.kernel.specs.Calls;
 ghost use Rattle.kernel.specs.Calls.{current_id, acquire_within, event_wait_within, ticks_to_ms, step, init_words};
@@ -68,7 +68,7 @@ fn list(k: Kernel, room: usize, arena: &[u32], out: &mut [u8], at: &mut usize) -
 
 // The calls that `turns` has not: 0 current id, 1 result, 2 acquire with a limit, 3 event wait with a limit, 4 milliseconds from ticks.
 fn other(k: Kernel, which: u8, b: u8, y: u32) -> Answer
-    ensures { result ≡ step k (if eqb which 0 then current_id else if eqb which 1 then Calls.result (id_of y) (signed_byte b) else if eqb which 2 then acquire_within b y else if eqb which 3 then event_wait_within b y else ticks_to_ms (ticks_of b y)) }
+    ensures { result ≡ step k (if eqb which 0 then current_id otherwise if eqb which 1 then Calls.result (id_of y) (signed_byte b) otherwise if eqb which 2 then acquire_within b y otherwise if eqb which 3 then event_wait_within b y otherwise ticks_to_ms (ticks_of b y)) }
 {
     let id = TaskId(y);
     let object = b as usize;

@@ -1,6 +1,6 @@
 -- A line of the notation of `turns` or `tables`, and the frame that it writes (01, "Program `turns`"; README, "The operations").
 use Rattle.std.specs.Prelude.{ℕ, ◌+◌, ◌-◌, ◌*◌, Bool, ◌&&◌, ◌||◌, not, List, [], ◌∷◌, eqb, leb, ltb, get_or, set, replicate}
-use Rattle.base.specs.Choice.{if◌then◌else◌, every}
+use Rattle.base.specs.Choice.{if◌then◌otherwise◌, every}
 use Rattle.line_frame.specs.declared.Operation.{Operation}
 use Rattle.line_frame.specs.declared.Operation.TheVariants.{Unknown, Add, Start, Tick, Switch, Exit, Wait, Reap, Sleep, Wake, Lock, Unlock, TryLock, Acquire, TryAcquire, Release, EventWait, Signal, Status, Block, ReapOne, AcquireWithin, EventWaitWithin, TicksToMs, CurrentId, Result, Word, Init}
 use Rattle.line_frame.specs.declared.Frame.{Frame}
@@ -15,7 +15,7 @@ empty_line = record { bytes = replicate 12 0; len = 0 }
 unfoldable pub lengthened : Line → ℕ → Line
 lengthened l b =
     if ltb l.len 12 then record { bytes = set l.bytes l.len b; len = l.len + 1 }
-    else record { bytes = l.bytes; len = 13 }
+    otherwise record { bytes = l.bytes; len = 13 }
 
 -- ---- its digits
 
@@ -23,12 +23,12 @@ lengthened l b =
 unfoldable pub digit : ℕ → ℕ
 digit b =
     if leb 48 b && leb b 57 then b - 48
-    else if leb 97 b && leb b 102 then b - 87
-    else 16
+    otherwise if leb 97 b && leb b 102 then b - 87
+    otherwise 16
 
 -- the byte that two digits write, high first; 256 where one of them is none
 unfoldable pub byte_of : ℕ → ℕ → ℕ
-byte_of high low = if ltb (digit high) 16 && ltb (digit low) 16 then 16 * digit high + digit low else 256
+byte_of high low = if ltb (digit high) 16 && ltb (digit low) 16 then 16 * digit high + digit low otherwise 256
 
 -- byte i of the six
 abbrev pub byte_at : Line → ℕ → ℕ
@@ -46,7 +46,7 @@ operations = Unknown ∷ Add ∷ Start ∷ Tick ∷ Switch ∷ Exit ∷ Wait ∷
 
 -- `turns` has those up to 14
 unfoldable pub operation_of : Bool → ℕ → Operation
-operation_of tables n = if tables || leb n 0x14 then get_or operations n Unknown else Unknown
+operation_of tables n = if tables || leb n 0x14 then get_or operations n Unknown otherwise Unknown
 
 -- add, the calls on objects and status; 15 and 16, with a limit; 18; list, result and word
 abbrev pub uses_k : ℕ → Bool
@@ -86,5 +86,5 @@ malformed = record { operation = Unknown; k = 0; y = 0 }
 unfoldable pub frame_of : Bool → Line → Frame
 frame_of tables l =
     if not (is_hex l) then malformed
-    else if not (operands_fit (byte_at l 0) (k_of l) (y_of l)) then malformed
-    else record { operation = operation_of tables (byte_at l 0); k = k_of l; y = y_of l }
+    otherwise if not (operands_fit (byte_at l 0) (k_of l) (y_of l)) then malformed
+    otherwise record { operation = operation_of tables (byte_at l 0); k = k_of l; y = y_of l }

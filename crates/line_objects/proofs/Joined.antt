@@ -9,7 +9,7 @@ use native.Mathlib.Omega.{arith}
 use lib.Dec.{ltb}
 use lib.ListN.{length}
 use borrow.Author.Tests.{lt-ltb}
-use Rattle.base.specs.Choice.{if◌then◌else◌}
+use Rattle.base.specs.Choice.{if◌then◌otherwise◌}
 use Rattle.base.specs.Below.{any_below}
 use Rattle.line_text.specs.Text.{Writes}
 use Rattle.line_text.proofs.Writing.{nothing_written, written_then, written_length, same_text}
@@ -17,7 +17,7 @@ use Rattle.line_objects.specs.ObjectsLine.{joined}
 
 -- what stands between the texts before i and text i
 abbrev pub between : Bool → ℕ → List ℕ
-between any byte = if any then byte ∷ [] else []
+between any byte = if any then byte ∷ [] otherwise []
 
 -- Of n texts, the i first are written, from place `at` up to place `end`, each in at most `room` bytes; all of them fit.
 pub record Joining (byte : ℕ) (p : ℕ → Bool) (text : ℕ → List ℕ) (room n : ℕ) (out : List ℕ) (at : ℕ) (out' : List ℕ) (end i : ℕ) : Type 0 where
@@ -35,16 +35,16 @@ pub joining_room : {byte : ℕ} {p : ℕ → Bool} {text : ℕ → List ℕ} {ro
 joining_room {room = room} {n = n} i j h =
     omega (arith, j.short, j.fits, written_length _ j.writes, rw (mul-suc room i) at (mul-le-mul_left {m = suc i} {n = n} room (omega arith)))
 
-one_more : (byte : ℕ) (p : ℕ → Bool) (text : ℕ → List ℕ) (any : Bool) (i : ℕ) → (p i ≡ true → any ≡ any_below p i) → joined byte p text i ++ (if p i then between any byte ++ text i else []) ≡ joined byte p text (i + 1)
-unfolding joined if◌then◌else◌
+one_more : (byte : ℕ) (p : ℕ → Bool) (text : ℕ → List ℕ) (any : Bool) (i : ℕ) → (p i ≡ true → any ≡ any_below p i) → joined byte p text i ++ (if p i then between any byte ++ text i otherwise []) ≡ joined byte p text (i + 1)
+unfolding joined if◌then◌otherwise◌
 one_more byte p text any i same = rw add-one (by_cases (p i) same)
   where
-    by_cases : (b : Bool) → (b ≡ true → any ≡ any_below p i) → joined byte p text i ++ (if b then between any byte ++ text i else []) ≡ if b then joined byte p text i ++ (between (any_below p i) byte ++ text i) else joined byte p text i
+    by_cases : (b : Bool) → (b ≡ true → any ≡ any_below p i) → joined byte p text i ++ (if b then between any byte ++ text i otherwise []) ≡ if b then joined byte p text i ++ (between (any_below p i) byte ++ text i) otherwise joined byte p text i
     by_cases true s = rw (s refl)
     by_cases false s = append-nil (joined byte p text i)
 
 -- the text of i, with the byte before it, if p holds of i
-pub joining_more : {byte : ℕ} {p : ℕ → Bool} {text : ℕ → List ℕ} {room n : ℕ} {out out' out'' : List ℕ} {at b c : ℕ} (any : Bool) (i : ℕ) → Joining byte p text room n out at out' b i → i < n → (p i ≡ true → any ≡ any_below p i) → Writes out' b (if p i then between any byte ++ text i else []) out'' c → c ≤ b + room → Joining byte p text room n out at out'' c (i + 1)
+pub joining_more : {byte : ℕ} {p : ℕ → Bool} {text : ℕ → List ℕ} {room n : ℕ} {out out' out'' : List ℕ} {at b c : ℕ} (any : Bool) (i : ℕ) → Joining byte p text room n out at out' b i → i < n → (p i ≡ true → any ≡ any_below p i) → Writes out' b (if p i then between any byte ++ text i otherwise []) out'' c → c ≤ b + room → Joining byte p text room n out at out'' c (i + 1)
 joining_more {byte} {p} {text} {room} {n} {out} {out'} {out''} {at} {b} {c} any i j h same w s =
     record { within = omega arith; writes = same_text (one_more byte p text any i same) (written_then _ _ j.writes w); short = rw (add-one i, mul-suc room i) (omega (arith, j.short)); fits = j.fits }
 
@@ -61,7 +61,7 @@ all_before p (suc i) f = rw (lt-ltb 0 (suc i) (omega arith), f i (omega arith)) 
 -- Every number has a text, of at most `most` bytes, after a byte that stands before all but the first.
 module _ {byte : ℕ} {text : ℕ → List ℕ} {room n : ℕ} {out out' out'' : List ℕ} {at b c : ℕ} (most i : ℕ) (j : Joining byte (λ _. true) text room n out at out' b i) (h : i < n) (w : Writes out' b (between (ltb 0 i) byte) out'' c) (s : c ≤ b + 1) (fits : most < room) where
   pub joining_each : {out''' : List ℕ} {d : ℕ} → Writes out'' c (text i) out''' d → d ≤ c + most → Joining byte (λ _. true) text room n out at out''' d (i + 1)
-  unfolding if◌then◌else◌
+  unfolding if◌then◌otherwise◌
   joining_each v t = joining_more (ltb 0 i) i j h (λ _. all_before (λ _. true) i (λ _ _. refl)) (written_then _ _ w v) (omega arith)
 
 pub joining_done : {byte : ℕ} {p : ℕ → Bool} {text : ℕ → List ℕ} {room n : ℕ} {out out' : List ℕ} {at b : ℕ} (i : ℕ) → Joining byte p text room n out at out' b i → n ≤ i → Writes out at (joined byte p text n) out' b × (b ≤ at + room * n)

@@ -1,6 +1,6 @@
 -- The objects in the line that `tables` prints for a kernel, after the pieces of text that they are made of.
 use Rattle.std.specs.Prelude.{ℕ, zero, suc, Bool, true, List, [], ◌∷◌, ◌++◌, ltb}
-use Rattle.base.specs.Choice.{if◌then◌else◌}
+use Rattle.base.specs.Choice.{if◌then◌otherwise◌}
 use Rattle.base.specs.Below.{any_below}
 use Rattle.kernel.specs.declared.control.OptionTaskId.{OptionTaskId}
 use Rattle.kernel.specs.declared.control.OptionTaskId.TheVariants.{None, Some}
@@ -17,15 +17,15 @@ use Rattle.line_text.specs.Text.{decimal}
 unfoldable pub joined : ℕ → (ℕ → Bool) → (ℕ → List ℕ) → ℕ → List ℕ
 joined byte p text zero = []
 joined byte p text (suc n) =
-    if p n then joined byte p text n ++ ((if any_below p n then byte ∷ [] else []) ++ text n)
-    else joined byte p text n
+    if p n then joined byte p text n ++ ((if any_below p n then byte ∷ [] otherwise []) ++ text n)
+    otherwise joined byte p text n
 
 abbrev pub comma : List ℕ
 comma = 44 ∷ []
 
 -- 1 and 0
 abbrev pub flag : Bool → List ℕ
-flag b = (if b then 49 else 48) ∷ []
+flag b = (if b then 49 otherwise 48) ∷ []
 
 -- `-` for none
 unfoldable pub id_text : OptionTaskId → List ℕ

@@ -1,6 +1,6 @@
 // Each function writes at a place, answers the place after what it wrote, and asks its caller for the room.
 ghost use Rattle.std.specs.Prelude.{[], ◌∷◌, ◌++◌, ◌+◌, ◌<◌, ◌≤◌, ltb, length};
-ghost use Rattle.base.specs.Choice.{if◌then◌else◌};
+ghost use Rattle.base.specs.Choice.{if◌then◌otherwise◌};
 ghost use Rattle.kernel.specs.Kernel.{mutex, semaphore, event};
 ghost use Rattle.kernel.specs.WaitQueue.{place};
 ghost use Rattle.line_text.specs.Text.{Writes, decimal};
@@ -19,7 +19,7 @@ use line_text::internal::{put, put_decimal};
 // A byte between two texts; nothing before the first.
 pub fn put_between(out: &mut [u8], at: usize, any: bool, b: u8) -> usize
     requires { at + 1 ≤ length out.old }
-    ensures writes { Writes out.old at (if any then b ∷ [] else []) out.new result }
+    ensures writes { Writes out.old at (if any then b ∷ [] otherwise []) out.new result }
     ensures short { result ≤ at + 1 }
 {
     if any {
@@ -72,7 +72,7 @@ pub fn put_bar(out: &mut [u8], at: usize) -> usize
 // A place past the queue's length has no text.
 fn put_waiter_if(out: &mut [u8], at: usize, q: WaitQueue, j: usize) -> usize
     requires { (at + 21 ≤ length out.old) × (j < 8) }
-    ensures writes { Writes out.old at (if ltb j q.len then (if ltb 0 j then 32 ∷ [] else []) ++ decimal (place q j).0 else []) out.new result }
+    ensures writes { Writes out.old at (if ltb j q.len then (if ltb 0 j then 32 ∷ [] otherwise []) ++ decimal (place q j).0 otherwise []) out.new result }
     ensures short { result ≤ at + 21 }
 {
     if q.len <= j {

@@ -1,6 +1,6 @@
 -- What the programs `turns` and `tables` make of their input, byte by byte (01, "Program `turns`"; README, "The operations" and "The table line").
 use Rattle.std.specs.Prelude.{ℕ, ◌≡◌, Bool, List, [], ◌∷◌, ◌++◌, eqb, replicate}
-use Rattle.base.specs.Choice.{if◌then◌else◌}
+use Rattle.base.specs.Choice.{if◌then◌otherwise◌}
 use Rattle.kernel.specs.declared.scheduler.Answer.{Answer}
 use Rattle.kernel.specs.Calls.{init, init_words}
 use Rattle.line_frame.specs.declared.Frame.{Frame}
@@ -28,24 +28,24 @@ answer_of tables s arena = answer_to s.kernel arena (frame_in tables s)
 
 -- the answer's digits and a line feed; `tables` has what is added between them, and the table's line after them
 unfoldable pub reply : Bool → Answer → List ℕ → List ℕ
-reply tables a added = answer_digits a ++ (if tables then added ++ (10 ∷ table_line a.kernel) else 10 ∷ [])
+reply tables a added = answer_digits a ++ (if tables then added ++ (10 ∷ table_line a.kernel) otherwise 10 ∷ [])
 
 -- no reply is longer: 12 for the digits, 1,681 for what is added, 1 for the line feed, 8,662 for the table
 abbrev pub reply_room : Bool → ℕ
-reply_room tables = if tables then 10356 else 13
+reply_room tables = if tables then 10356 otherwise 13
 
 -- ---- a byte: a line feed ends the line, any other lengthens it
 
 unfoldable pub fed : Bool → Session → List ℕ → ℕ → Session
 fed tables s arena b =
     if eqb b 10 then record { kernel = (answer_of tables s arena).kernel; line = empty_line }
-    else record { kernel = s.kernel; line = lengthened s.line b }
+    otherwise record { kernel = s.kernel; line = lengthened s.line b }
 
 unfoldable pub fed_arena : Bool → Session → List ℕ → ℕ → List ℕ
-fed_arena tables s arena b = if eqb b 10 then words_after s.kernel arena (frame_in tables s) else arena
+fed_arena tables s arena b = if eqb b 10 then words_after s.kernel arena (frame_in tables s) otherwise arena
 
 unfoldable pub said : Bool → Session → List ℕ → ℕ → List ℕ
-said tables s arena b = if eqb b 10 then reply tables (answer_of tables s arena) (added_to s.kernel arena (frame_in tables s)) else []
+said tables s arena b = if eqb b 10 then reply tables (answer_of tables s arena) (added_to s.kernel arena (frame_in tables s)) otherwise []
 
 -- ---- bytes
 
@@ -74,7 +74,7 @@ pub record Plays (tables : Bool) (s : Session) (arena bytes arena' out out' : Li
 
 -- a rest without a line feed is a line if it is not empty
 abbrev pub rest : Session → List ℕ
-rest s = if eqb s.line.len 0 then [] else 10 ∷ []
+rest s = if eqb s.line.len 0 then [] otherwise 10 ∷ []
 
 -- all that a program prints: 4,096 words, the input, and what its end adds
 unfoldable pub printed : Bool → List ℕ → List ℕ

@@ -1,6 +1,6 @@
 -- The line that `tables` prints for a kernel: the whole table in decimal.
 use Rattle.std.specs.Prelude.{ℕ, suc, Bool, true, List, [], ◌∷◌, ◌++◌, ℤ, pos, negsuc}
-use Rattle.base.specs.Choice.{if◌then◌else◌}
+use Rattle.base.specs.Choice.{if◌then◌otherwise◌}
 use Rattle.kernel.specs.declared.control.LimitObject.{LimitObject}
 use Rattle.kernel.specs.declared.control.LimitObject.TheVariants.{NoLimit, AtSemaphore, AtEvent}
 use Rattle.kernel.specs.declared.control.TaskControl.{TaskControl}
@@ -67,7 +67,7 @@ limits_text k = joined 59 (λ i. (slot k i).occupied) (λ i. limit_text i (slot 
 
 -- `-` for an empty slot
 unfoldable pub rank_text : Bool → ℕ → List ℕ
-rank_text occupied number = if occupied then decimal number else 45 ∷ []
+rank_text occupied number = if occupied then decimal number otherwise 45 ∷ []
 
 unfoldable pub ranks_text : Kernel → List ℕ
 ranks_text k = joined 44 (λ i. true) (λ i. rank_text (slot k i).occupied (rank k i)) 16

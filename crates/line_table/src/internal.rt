@@ -1,6 +1,6 @@
 // Each function writes at a place, answers the place after what it wrote, and asks its caller for the room.
 ghost use Rattle.std.specs.Prelude.{[], ◌∷◌, ◌++◌, ◌≡◌, ◌+◌, ◌≤◌, nat_abs, length};
-ghost use Rattle.base.specs.Choice.{if◌then◌else◌};
+ghost use Rattle.base.specs.Choice.{if◌then◌otherwise◌};
 ghost use Rattle.kernel.specs.Control.{state_number};
 ghost use Rattle.line_text.specs.Text.{Writes, decimal};
 ghost use Rattle.line_objects.specs.ObjectsLine.{bar};
@@ -102,7 +102,7 @@ fn put_slot(out: &mut [u8], at: usize, i: usize, t: TaskControl) -> usize
 // A slot that is not occupied has no text.
 fn put_slot_if(out: &mut [u8], at: usize, any: bool, i: usize, t: TaskControl) -> usize
     requires { at + 274 ≤ length out.old }
-    ensures writes { Writes out.old at (if t.occupied then (if any then 59 ∷ [] else []) ++ slot_text i t else []) out.new result }
+    ensures writes { Writes out.old at (if t.occupied then (if any then 59 ∷ [] otherwise []) ++ slot_text i t otherwise []) out.new result }
     ensures short { result ≤ at + 274 }
 {
     if !t.occupied {
@@ -212,7 +212,7 @@ fn put_limit(out: &mut [u8], at: usize, i: usize, t: TaskControl) -> usize
 // A slot that is not occupied has no text.
 fn put_limit_if(out: &mut [u8], at: usize, any: bool, i: usize, t: TaskControl) -> usize
     requires { at + 67 ≤ length out.old }
-    ensures writes { Writes out.old at (if t.occupied then (if any then 59 ∷ [] else []) ++ limit_text i t else []) out.new result }
+    ensures writes { Writes out.old at (if t.occupied then (if any then 59 ∷ [] otherwise []) ++ limit_text i t otherwise []) out.new result }
     ensures short { result ≤ at + 67 }
 {
     if !t.occupied {

@@ -9,7 +9,7 @@ use lib.ListN.{length, get_or, set, length-set}
 use native.Mathlib.Nat.{le_refl}
 use borrow.Author.Tests.{lt-ltb, le-ltb, ltb-true, ltb-false, eqb-true, eq-eqb, ne_eqb}
 use borrow.Author.Count.{below_more}
-use Rattle.base.specs.Choice.{if◌then◌else◌}
+use Rattle.base.specs.Choice.{if◌then◌otherwise◌}
 use Rattle.base.specs.Below.{all_below, lowest_below}
 use Rattle.base.proofs.Choices.{and_right, same_test, either}
 use Rattle.base.proofs.Loops.{all_at, all_each, lowest_same, lowest_is, lowest_next, lowest_here, Upto, search_start, search_more, search_found, search_done, set_more}
@@ -21,7 +21,7 @@ use Rattle.pick.specs.Keys.{IsKey, IsLeast, key_distance, first_from}
 pub least_none : (keys : List ℕ) → IsLeast keys 0 256
 least_none keys = record { low = λ i h. absurd (omega arith); reached = λ h. absurd (omega arith) }
 
-pub least_more : (keys : List ℕ) (i best : ℕ) → IsLeast keys i best → IsLeast keys (i + 1) (if ltb (get_or keys i 0) best then get_or keys i 0 else best)
+pub least_more : (keys : List ℕ) (i best : ℕ) → IsLeast keys i best → IsLeast keys (i + 1) (if ltb (get_or keys i 0) best then get_or keys i 0 otherwise best)
 least_more keys i best l =
     either (IsLeast keys (i + 1)) (ltb (get_or keys i 0) best)
     (λ e. let h : get_or keys i 0 < best = ltb-true _ _ e in
@@ -101,13 +101,13 @@ module _ (keys : List ℕ) (c best : ℕ) where
   from_next n at u h s e = search_more _ 16 n u h (rw (← s) (ne_eqb _ _ e))
 
   pub from_found : (n at : ℕ) → Searched n → n < 16 → at ≡ slot_after c n → get_or keys at 0 ≡ best → at ≡ first_from keys c best
-  unfolding first_from if◌then◌else◌ Searched
+  unfolding first_from if◌then◌otherwise◌ Searched
   from_found n at u h s e =
       let d : n ≡ key_distance keys c best = search_found _ 16 n u h (rw (← s) (eq-eqb _ _ e)) in
       rw (← d, lt-ltb n 16 h) s
 
   pub from_none : (n : ℕ) → Searched n → 16 ≤ n → 0 ≡ first_from keys c best
-  unfolding first_from if◌then◌else◌ Searched
+  unfolding first_from if◌then◌otherwise◌ Searched
   from_none n u h =
       let d : 16 ≡ key_distance keys c best = search_done _ 16 n u h in
       rw (← d)

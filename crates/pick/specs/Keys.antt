@@ -1,6 +1,6 @@
 -- The table as the pick searches it: one key for each slot, its number where it is Ready, and 256 or more where it is not.
 use Rattle.std.specs.Prelude.{ℕ, ◌≤◌, ◌<◌, ◌≡◌, Bool, true, List, eqb, ltb, get_or}
-use Rattle.base.specs.Choice.{if◌then◌else◌}
+use Rattle.base.specs.Choice.{if◌then◌otherwise◌}
 use Rattle.base.specs.Below.{lowest_below}
 use Rattle.kernel.specs.Scheduler.{slot_after}
 
@@ -19,4 +19,4 @@ abbrev pub key_distance : List ℕ → ℕ → ℕ → ℕ
 key_distance keys c best = lowest_below (λ n. eqb (get_or keys (slot_after c n) 0) best) 16
 
 unfoldable pub first_from : List ℕ → ℕ → ℕ → ℕ
-first_from keys c best = if ltb (key_distance keys c best) 16 then slot_after c (key_distance keys c best) else 0
+first_from keys c best = if ltb (key_distance keys c best) 16 then slot_after c (key_distance keys c best) otherwise 0

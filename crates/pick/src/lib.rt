@@ -2,7 +2,7 @@
 #![tactic(auto)]
 
 ghost use Rattle.std.specs.Prelude.{◌≡◌, ℕ, ◌<◌, eqb, ltb, length, get_or};
-ghost use Rattle.base.specs.Choice.{if◌then◌else◌};
+ghost use Rattle.base.specs.Choice.{if◌then◌otherwise◌};
 ghost use Rattle.base.specs.Below.{any_below};
 ghost use Rattle.kernel.specs.Scheduler.{slot_after, pick};
 ghost use Rattle.kernel.specs.Calls.{pick_bytes};
@@ -28,7 +28,7 @@ fn key(ready: bool, number: u8) -> u16
 }
 
 fn smaller(a: u16, b: u16) -> u16
-    ensures { result ≡ (if ltb a b then a else b) }
+    ensures { result ≡ (if ltb a b then a otherwise b) }
 {
     if a < b { a } else { b }
 }

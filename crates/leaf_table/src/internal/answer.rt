@@ -1,6 +1,6 @@
 // A chain of checks, the two kinds of answer, and the answer of a wake.
 ghost use Rattle.std.specs.Prelude.{ltb, ◌≡◌};
-ghost use Rattle.base.specs.Choice.{if◌then◌else◌};
+ghost use Rattle.base.specs.Choice.{if◌then◌otherwise◌};
 ghost use Rattle.kernel.specs.Control.{entered};
 ghost use Rattle.kernel.specs.Kernel.{at};
 ghost use Rattle.kernel.specs.Calls.{refused, accepted};
@@ -10,7 +10,7 @@ use kernel::scheduler::{Answer, Kernel, Value};
 
 // The number of a check that refuses, else what the checks after it say.
 pub fn refuse_if(bad: bool, number: u8, rest: u8) -> u8
-    ensures { result ≡ (if bad then number else rest) }
+    ensures { result ≡ (if bad then number otherwise rest) }
 {
     if bad { number } else { rest }
 }
@@ -38,7 +38,7 @@ pub fn accepted(value: Value, kernel: Kernel) -> Answer
 
 // The task in slot i is made Ready, yes; 16 is none, no.
 pub fn woken(mut k: Kernel, i: usize) -> Answer
-    ensures { result ≡ accepted (Value.YesNo (ltb i 16)) (if ltb i 16 then at i (entered TaskState.Ready) k else k) }
+    ensures { result ≡ accepted (Value.YesNo (ltb i 16)) (if ltb i 16 then at i (entered TaskState.Ready) k otherwise k) }
 {
     if Kernel::MAX_TASKS <= i {
         return accepted(Value::YesNo(false), k);

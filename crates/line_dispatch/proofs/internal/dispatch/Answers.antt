@@ -1,6 +1,6 @@
 -- An arm for each operation, by the contract of its call.
 use Rattle.std.proofs.Common.{refl, ◌∙◌}
-use Rattle.base.specs.Choice.{if◌then◌else◌}
+use Rattle.base.specs.Choice.{if◌then◌otherwise◌}
 use Rattle.line_text.proofs.Writing.{nothing_written, same_text}
 use Rattle.line_dispatch.specs.Dispatch.{answer_to, words_after, added_to}
 use Rattle.line_dispatch.proofs.Listing.{sixteen}
@@ -86,23 +86,23 @@ returns-else-object-lt-MAX_TASKS-clause-value c =
     rw c.in-List.is (listed.0 ∙ enough.0, refl, same_text enough.1 listed.1)
 
 pub returns-in-CurrentId-clause-value : goal.returns-in-CurrentId-clause-value
-unfolding if◌then◌else◌
+unfolding if◌then◌otherwise◌
 returns-in-CurrentId-clause-value c = plain _ _ _ c.in-CurrentId.is refl c.other-answer.ensures
 
 pub returns-in-Result-clause-value : goal.returns-in-Result-clause-value
-unfolding if◌then◌else◌
+unfolding if◌then◌otherwise◌
 returns-in-Result-clause-value c = plain _ _ _ c.in-Result.is refl c.other-answer-in-Result.ensures
 
 pub returns-in-AcquireWithin-clause-value : goal.returns-in-AcquireWithin-clause-value
-unfolding if◌then◌else◌
+unfolding if◌then◌otherwise◌
 returns-in-AcquireWithin-clause-value c = plain _ _ _ c.in-AcquireWithin.is refl c.other-answer-in-AcquireWithin.ensures
 
 pub returns-in-EventWaitWithin-clause-value : goal.returns-in-EventWaitWithin-clause-value
-unfolding if◌then◌else◌
+unfolding if◌then◌otherwise◌
 returns-in-EventWaitWithin-clause-value c = plain _ _ _ c.in-EventWaitWithin.is refl c.other-answer-in-EventWaitWithin.ensures
 
 pub returns-in-TicksToMs-clause-value : goal.returns-in-TicksToMs-clause-value
-unfolding if◌then◌else◌
+unfolding if◌then◌otherwise◌
 returns-in-TicksToMs-clause-value c = plain _ _ _ c.in-TicksToMs.is refl c.other-answer-in-TicksToMs.ensures
 
 pub returns-in-Word-clause-value : goal.returns-in-Word-clause-value
