@@ -6,7 +6,7 @@ use Rattle.line_session.proofs.internal.play.Goals as goal
 use Rattle.line_session.proofs.internal.play.Goals.{then-b-eq10, else-b-eq10+then-len-lt-ROOM, else-b-eq10+else-len-lt-ROOM}
 
 pub loop-i-init : goal.loop-i-init
-loop-i-init c = record { used = omega arith; plays = nothing_played _ _ _ _; reached = c.requires.1; }
+loop-i-init c = record { used = omega arith; plays = nothing_played _ _ _ _; reached = c.requires.1 }
 
 pub loop-i-preserved : goal.loop-i-preserved
 loop-i-preserved c =
