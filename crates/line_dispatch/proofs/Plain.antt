@@ -1,7 +1,7 @@
 -- A frame that asks for a call which writes nothing that it is lent: the call's answer is the frame's, and nothing else changes.
 use Prim.Native.Nat.{ℕ}
 use mathlib.Core.Path.{◌≡◌, ap, ◌∙◌, sym}
-use mathlib.Core.List.{List, []}
+use mathlib.Core.List.{List}
 use Rattle.kernel.specs.declared.scheduler.Kernel.{Kernel}
 use Rattle.kernel.specs.declared.scheduler.Answer.{Answer}
 use Rattle.kernel.specs.Calls.{Call, step}
@@ -9,7 +9,7 @@ use Rattle.line_text.specs.Text.{Writes}
 use Rattle.line_text.proofs.Writing.{nothing_written, same_text}
 use Rattle.line_frame.specs.declared.Operation.{Operation}
 use Rattle.line_frame.specs.declared.Frame.{Frame}
-use Rattle.line_dispatch.specs.Dispatch.{Request, call, request_of, answered, answer_to, words_of, words_after, added_by, added_to}
+use Rattle.line_dispatch.specs.Dispatch.{call, request_of, answered, answer_to, words_of, words_after, added_by, added_to}
 
 pub plain : (k : Kernel) (arena : List ℕ) (f : Frame) {out : List ℕ} {at : ℕ} {r : Answer} {o : Operation} {c : Call} → f.operation ≡ o → request_of k.hz arena o f.k f.y ≡ call c → r ≡ step k c
     → (r ≡ answer_to k arena f) × (arena ≡ words_after k arena f) × Writes out at (added_to k arena f) out at

@@ -91,16 +91,10 @@ module _ {s : Session} {list arena arena' out out' : List ℕ} {p : Played} (fir
   finish_room = omega (arith, no_table false refl, ap length (whole_part p.len out'), length-drop p.len out', first_length)
 
   module _ {arena'' part' : List ℕ} {q : Played} (second : Plays false p.session arena' (rest p.session) arena'' (part p.len out') part' q) where
-    pub both_fit : p.len + q.len ≤ length out
-    both_fit = omega (arith, first_length, second.written.place, ended_length p.session arena')
-
     both_written : Writes out 0 (told list s arena) (back p.len out' part') (p.len + q.len)
     both_written =
         same_text (both (λ x a. replies false s arena list ++ ended x a) first.session first.words)
         (written_then _ _ first.written (part_written p.len (ended p.session arena') (omega (arith, first_length, ended_length p.session arena')) second.written))
-
-    pub back_length : length (back p.len out' part') ≡ length out
-    back_length = written_length (told list s arena) both_written
 
     -- from an arena of 4,096 words, all zero
     pub all_played : s ≡ opened (length (replicate {A = ℕ} 4096 0)) → arena ≡ init_words 1000 (replicate 4096 0) → Writes out 0 (printed false list) (back p.len out' part') (p.len + q.len)
