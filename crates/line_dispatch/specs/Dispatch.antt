@@ -48,7 +48,7 @@ signed_byte k = if ltb k 128 then pos k otherwise negsuc (255 - k)
 unfoldable pub word_of : ℕ → ℕ
 word_of k = if eqb k 0 then 0 otherwise paint
 
--- y × 2^k; a line with k above 32 is malformed (`inRange`), and would count here as 32
+-- y × 2^k; a line with k above 32 is malformed (`in_range`), and would count here as 32
 unfoldable pub ticks_of : ℕ → ℕ → ℕ
 ticks_of k y = y * 2 ^ min k 32
 
