@@ -6,6 +6,7 @@ pub mod Kept
 pub mod Account
 pub mod Invariant
 pub mod TurnGuarantee
+pub mod TurnByPriority
 pub mod Charges
 pub mod Settled
 pub mod Queues

@@ -28,12 +28,11 @@ use Rattle.kernel.specs.Calls.{Call, add, start, switch, current_id, status, blo
 use Rattle.kernel.specs.Calls
 use Rattle.kernel.proofs.Accepted.{start_off, switch_on}
 use Rattle.kernel.proofs.Pick.{pick_lt}
-use Rattle.kernel.proofs.Rank.{rank_own}
 use Rattle.kernel.proofs.Changes.{Changes, none}
 use Rattle.kernel.proofs.MadeOf.{made_of}
 use Rattle.kernel.proofs.Reached.{init_kernel, reached}
 use Rattle.book_guarantees.specs.Lists.{Entry, after, Each, EachNext, Returned, end, Outcome, turn, tick, other, outcome_of, outcome, AcceptedSwitch, turns, tick_of, ticks_while, accepted_tick, starts, is_start}
-use Rattle.book_guarantees.specs.Turns.{Holds, Stays, Stretch, Peer, Unchanging, Rises, TurnGuarantee, TurnGuaranteeByPriority, ticks_while_others, IdleGuarantee}
+use Rattle.book_guarantees.specs.Turns.{Stays, Peer, Unchanging, Rises, TurnGuarantee, ticks_while_others, IdleGuarantee}
 use Rattle.book_guarantees.proofs.BestFirst.{clash}
 use Rattle.book_guarantees.proofs.Fairness.{most, budget, IsTurn, answered, Step, Steps, At, each_at, fair}
 use Rattle.book_guarantees.proofs.Kept.{IsOther, priority_kept, charge_kept, kept}
@@ -76,7 +75,7 @@ pub record Fact (k : Kernel) (b : Bool) (v : Outcome) (k' : Kernel) : Type 0 whe
   account : k.started ≡ true → (j : ℕ) → (slot k j).occupied ≡ true → (slot k' j).occupied ≡ true → charge k' j ≡ charge k j + tick_of j k v
   pub sum : charge_sum k' ≡ charge_sum k + (if k.started then accepted_tick v otherwise 0)
   begun : (s : ℕ) → v ≡ turn s → (current k' ≡ s) × (s < 16) × (k'.started ≡ true)
-  priority : (j : ℕ) → (slot k j).occupied ≡ true → (slot k' j).occupied ≡ true → priority_of k' j ≡ priority_of k j
+  pub priority : (j : ℕ) → (slot k j).occupied ≡ true → (slot k' j).occupied ≡ true → priority_of k' j ≡ priority_of k j
   -- tick_count rises by the accepted ticks, and with such a tick every limit lies ahead
   pub clock : k'.tick_count ≡ k.tick_count + accepted_tick v
   pub ahead : (w : Bool) → v ≡ tick w → (j : ℕ) → j < 16 → LimitAhead k'.tick_count (slot k' j)
@@ -184,7 +183,7 @@ entry_fact k e i r = subst (λ (a : Answer). Fact k (is_start (record { call = e
 
 -- ---- a list of calls
 
-abbrev Chain : List Entry → Type 0
+abbrev pub Chain : List Entry → Type 0
 Chain es = EachNext (λ e f. Fact (after e) (is_start f) (outcome f) (after f)) es
 
 chain : (e : Entry) (es : List Entry) → Invariant (after e) → Returned (after e) es → Chain (e ∷ es)
@@ -192,7 +191,7 @@ chain e [] i r = tt
 chain e (f ∷ fs) i r = let x = entry_fact (after e) f i r.0 in (x, chain f fs x.invariant r.1)
 
 -- from an entry of a list on
-chain_from : (k : Kernel) (es : List Entry) (one : Entry) (fs : List Entry) → Invariant k → Returned k (es ++ one ∷ fs) → (k₀ : Kernel) × Fact k₀ (is_start one) (outcome one) (after one) × Chain (one ∷ fs)
+pub chain_from : (k : Kernel) (es : List Entry) (one : Entry) (fs : List Entry) → Invariant k → Returned k (es ++ one ∷ fs) → (k₀ : Kernel) × Fact k₀ (is_start one) (outcome one) (after one) × Chain (one ∷ fs)
 chain_from k [] one fs i r = let x = entry_fact k one i r.0 in (k, x, chain one fs x.invariant r.1)
 chain_from k (e ∷ es) one fs i r = chain_from (after e) es one fs (entry_fact k e i r.0).invariant r.1
 
@@ -284,40 +283,3 @@ turn_guarantee hz words accepted before between rest one two returned i a s u = 
 
 pub idle_guarantee : IdleGuarantee
 idle_guarantee k r = let i = reached_invariant r in record { present = i.account.sound.is.idle; named = (i.slices 0).2; slice = (i.slices 0).0 }
-
--- ---- where no mutex has a queue
-
--- a task that stays keeps its priority
-stays_priority : (r j : ℕ) (a : TaskId) (e : Entry) (es fs : List Entry) → Chain (e ∷ (es ++ fs)) → Each (λ x. Holds j a (after x)) (e ∷ es) → priority_of (after e) j ≡ r
-    → Each (λ x. priority_of (after x) j ≡ r) es
-stays_priority r j a e [] fs c h q = tt
-stays_priority r j a e (f ∷ es) fs c h q = let x = c.0.priority j h.0.present h.1.0.present ∙ q in (x, stays_priority r j a f es fs c.1 h.1 x)
-
-each_with : {P Q R : Entry → Type 0} → ((e : Entry) → P e → Q e → R e) → (es : List Entry) → Each P es → Each Q es → Each R es
-each_with f [] p q = tt
-each_with f (e ∷ es) p q = (f e p.0 q.0, each_with f es p.1 q.1)
-
-pub turn_guarantee_by_priority : TurnGuaranteeByPriority
-turn_guarantee_by_priority hz words accepted before between rest one two returned empty i a s =
-    let f = turn_guarantee hz words accepted before between rest one two returned i a by_rank (same i a s.stays) in
-    record { one_turn = λ j b q. f.one_turn j b (peer j b q); peers = λ j b q. f.peers j b (peer j b q); own = f.own; others = f.others; not_idle = f.not_idle }
-  where
-    own : (j : ℕ) → rank (after one) j ≡ priority_of (after one) j
-    own = rank_own (after one) empty.0
-
-    by_rank : Stretch rank i a one between two
-    by_rank = record {
-      first_turn = s.first_turn;
-      second_turn = s.second_turn;
-      neighbouring = s.neighbouring;
-      stays = s.stays;
-      none_smaller = each_with (λ e z h t q. let l = h t q in omega (arith, l, own i, rank_own (after e) z t)) between empty.1 s.none_smaller;
-      followed = s.followed;
-    }
-
-    same : (j : ℕ) (b : TaskId) → Stays j b one between → Unchanging rank j one between
-    same j b h = each_with (λ e z q. rank_own (after e) z j ∙ q ∙ sym (own j)) between empty.1
-        (stays_priority _ j b one between (two ∷ rest) (chain_from (init hz words).kernel before one (between ++ two ∷ rest) (init_invariant hz words accepted) returned).2 h refl)
-
-    peer : (j : ℕ) (b : TaskId) → Peer priority_of i one between j b → Peer rank i one between j b × Unchanging rank j one between
-    peer j b q = (record { another = q.another; equal = own j ∙ q.equal ∙ sym (own i); stayed = q.stayed }, same j b q.stayed)
