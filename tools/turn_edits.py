@@ -31,7 +31,7 @@ QUOTED = re.compile(r"«(\w+)»")
 RESERVED = set("""data record deriving module where use mod pub package open as unfoldable abbrev axiom unfold unfolding ruleset mutual
     infix infixl infixr elim let in do Type coe fcoe tcoe hcom com""".split())
 # What stands before an application, and is no part of it.
-BEFORE = set("≡ ≢ ≤ < + - * / % ^ && || → × ⊎ ∷ ++ = : λ ∙ ↦ | ← in then else if let when".split())
+BEFORE = set("≡ ≢ ≤ < + - * / % ^ && || → × ⊎ ∷ ++ = : λ ∙ ↦ | ← in then else otherwise if let when".split())
 LIBRARY = {"getD": "get_or"}
 
 
