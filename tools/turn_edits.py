@@ -166,7 +166,7 @@ def by_rule(path, folder, words):
         text = opened.read()
     lines, files = text.split("\n"), {}
     for file, old, new in list(pairs(lines)):
-        if file.endswith("/Proof.antt"):
+        if file.endswith(("/Proof.antt", "/Answers.antt", "/Invariants.antt")):
             continue
         where = f"{folder}/{file}"
         if where not in files:
