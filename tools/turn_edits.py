@@ -203,7 +203,7 @@ def table():
 def by_table(text, steps):
     for old, new in steps:
         old, new = "\n".join(old) + "\n", "".join(line + "\n" for line in new if line is not None)
-        if "\n" + old in "\n" + text and (not new or new not in text):
+        if "\n" + old in "\n" + text and not (new.startswith(old) and new in text):
             text = ("\n" + text).replace("\n" + old, "\n" + new, 1)[1:]
     return text
 
