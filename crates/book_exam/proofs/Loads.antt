@@ -17,7 +17,7 @@ use Rattle.kernel.specs.declared.scheduler.Answer.{Answer}
 use Rattle.kernel.specs.Control.{holds_task, region_fits}
 use Rattle.kernel.specs.Kernel.{charge, charge_sum, slot_of, arena_fits, whole, fresh_kernel}
 use Rattle.kernel.specs.Calls.{load, value, effect, step, accepted}
-use Rattle.kernel.proofs.Step.{step_accepted}
+use Rattle.kernel.proofs.Step.{number_accepted}
 use Rattle.kernel.proofs.Load.{load_quotient, load_is, charge_within, load_accepted}
 use Rattle.book_exam.specs.Charges.{charged}
 use Rattle.book_exam.specs.Odd.{id}
@@ -39,7 +39,7 @@ quick_is k a e =
     let h : slot_of k a < 16 = ltb-true _ _ (and_left (ltb (slot_of k a) 16) (ltb 0 (charge_sum k)) rest) in
     let p : 0 < charge_sum k = ltb-true _ _ (and_right (ltb (slot_of k a) 16) (ltb 0 (charge_sum k)) rest) in
     let is = load_is (charge_within k (slot_of k a) h) (load_quotient (charge k (slot_of k a)) (charge_sum k) p) in
-    sym (ap (λ (x : Answer). x.value) (step_accepted k (load a) 0 (accepted (value k (load a)) (effect k (load a))) (load_accepted k a w h p) refl refl)) ∙ rw (is.0, is.1) refl
+    sym (ap (λ (x : Answer). x.value) (number_accepted k (load a) 0 (accepted (value k (load a)) (effect k (load a))) (load_accepted k a w h p) refl refl)) ∙ rw (is.0, is.1) refl
 
 all_fit : List Case → Bool
 all_fit [] = true

@@ -4,8 +4,8 @@ use Rattle.std.specs.Prelude.{ℕ, ◌+◌, ◌-◌, ◌*◌, ◌≡◌, refl, B
 use Rattle.base.specs.Choice.{if◌then◌otherwise◌, every}
 use Rattle.base.specs.Below.{all_below, any_below, count_below, sum_below, lowest_below, smallest_below, tabulate}
 use Rattle.kernel.specs.declared.control.TaskId.{TaskId}
-use Rattle.kernel.specs.declared.control.OptionTaskId.{OptionTaskId}
-use Rattle.kernel.specs.declared.control.OptionTaskId.TheVariants.{None, Some}
+use Rattle.kernel.specs.Types.{Option}
+use Rattle.kernel.specs.Types.{None, Some}
 use Rattle.kernel.specs.declared.control.TaskState.{TaskState}
 use Rattle.kernel.specs.declared.control.TaskState.TheVariants.{Ready, Running, Blocked, Terminated}
 use Rattle.kernel.specs.declared.control.StackRegion.{StackRegion}
@@ -53,7 +53,7 @@ started n c tasks = with_started true (with_current c (with_task_count n (with_n
 abbrev pub line : List ℕ → ℕ → WaitQueue
 line ids b = record { ids = map id ids ++ replicate (8 - length ids) (id b); len = length ids }
 
-abbrev pub mutex_of : Bool → OptionTaskId → OptionTaskId → WaitQueue → Mutex
+abbrev pub mutex_of : Bool → Option TaskId → Option TaskId → WaitQueue → Mutex
 mutex_of l o h q = record { locked = l; owner = o; handoff_to = h; waiters = q }
 
 -- task 5 runs, with an owned count of 1. Mutexes 0 and 1 are locked and have no owner; 1 is handed to 5. 5 is the owner
@@ -211,7 +211,7 @@ pub reaped : Call → Kernel → List ℕ
 reaped c k = answer c k ++ ((after c k).task_count ∷ [])
 
 -- a waiter's id, 0 for none, and a result, 0 for one below 0
-abbrev pub waiter_id : OptionTaskId → ℕ
+abbrev pub waiter_id : Option TaskId → ℕ
 waiter_id None = 0
 waiter_id (Some a) = a.0
 

@@ -19,7 +19,7 @@ use Rattle.kernel.specs.Control.{same_id, blank_slot}
 use Rattle.kernel.specs.Kernel.{slot, charge, charge_sum, holds_id, slot_of, is_occupied, is_present, whole}
 use Rattle.kernel.specs.Load.{IsLoad}
 use Rattle.kernel.specs.Calls.{load, value, effect, accepted, refused, step, init}
-use Rattle.kernel.proofs.Step.{step_refused, step_accepted}
+use Rattle.kernel.proofs.Step.{number_refused, number_accepted}
 use Rattle.kernel.proofs.Load.{thousand_most, load_once, load_is, load_found, charge_within, load_unknown, load_no_tick, load_accepted}
 use Rattle.kernel.proofs.Whole.{whole_is}
 use Rattle.book_guarantees.specs.Lists.{end, ticks_after_start}
@@ -71,10 +71,10 @@ module _ (k : Kernel) (a : Account k) where
   is = whole_is k a.sound.is
 
   not_found : (b : TaskId) → is_present k b ≡ false → step k (load b) ≡ refused 8 k
-  not_found b e = sym (step_refused k (load b) 8 _ (load_unknown k b is (ltb-false _ _ e)) (λ z. omega arith) refl)
+  not_found b e = sym (number_refused k (load b) 8 _ (load_unknown k b is (ltb-false _ _ e)) (λ z. omega arith) refl)
 
   none : charge_sum k ≡ 0 → (i : ℕ) → Present k i → asked k i ≡ refused 24 k
-  none z i p = sym (step_refused k (load (slot k i).id) 24 _ (load_no_tick k _ is (rw (found i p) (is_slot i p)) z) (λ z. omega arith) refl)
+  none z i p = sym (number_refused k (load (slot k i).id) 24 _ (load_no_tick k _ is (rw (found i p) (is_slot i p)) z) (λ z. omega arith) refl)
 
   module _ (t : 0 < charge_sum k) where
     pair : (i : ℕ) → Present k i → IsLoad (charge k i) (charge_sum k) (share k (charge_sum k) i) (remainder k (charge_sum k) i)
@@ -82,7 +82,7 @@ module _ (k : Kernel) (a : Account k) where
 
     answers : (i : ℕ) → Present k i → step k (load (slot k i).id) ≡ accepted (value k (load (slot k i).id)) k
     unfolding effect
-    answers i p = sym (step_accepted k (load (slot k i).id) 0 _ (load_accepted k _ is (rw (found i p) (is_slot i p)) t) refl refl)
+    answers i p = sym (number_accepted k (load (slot k i).id) 0 _ (load_accepted k _ is (rw (found i p) (is_slot i p)) t) refl refl)
 
     share_each : (i : ℕ) (b : Bool) → is_occupied k i ≡ b → (if b then share k (charge_sum k) i otherwise 0) * charge_sum k ≤ 1000 * (if b then charge k i otherwise 0)
     unfolding if◌then◌otherwise◌

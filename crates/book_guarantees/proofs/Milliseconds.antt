@@ -11,7 +11,7 @@ use Rattle.kernel.specs.declared.scheduler.Answer.{Answer}
 use Rattle.kernel.specs.Kernel.{whole}
 use Rattle.kernel.specs.Timer.{ms_to_ticks}
 use Rattle.kernel.specs.Calls.{ticks_to_ms, value, effect, accepted, refused, step, value_number}
-use Rattle.kernel.proofs.Step.{step_refused, step_accepted}
+use Rattle.kernel.proofs.Step.{number_refused, number_accepted}
 use Rattle.kernel.proofs.Timer.{at_most_quotient, counts_within, ticks_to_ms_is, clocked, ms_past, ms_within}
 use Rattle.book_guarantees.specs.Milliseconds.{LargestMs, quotient, IsAnswered, answer, MillisecondsGuarantee}
 
@@ -21,10 +21,10 @@ module _ (k : Kernel) (w : whole k ≡ true) where
 
   within : (t : ℕ) → quotient k t ≤ 4294967295 → step k (ticks_to_ms t) ≡ accepted (Milliseconds (quotient k t)) k
   unfolding value effect
-  within t h = sym (step_accepted k (ticks_to_ms t) 0 _ (ms_within k t w h) refl (rw (ticks_to_ms_is t k.hz (clocked k w)) refl))
+  within t h = sym (number_accepted k (ticks_to_ms t) 0 _ (ms_within k t w h) refl (rw (ticks_to_ms_is t k.hz (clocked k w)) refl))
 
   past : (t : ℕ) → 4294967295 < quotient k t → step k (ticks_to_ms t) ≡ refused 23 k
-  past t h = sym (step_refused k (ticks_to_ms t) 23 _ (ms_past k t w h) (λ z. omega arith) refl)
+  past t h = sym (number_refused k (ticks_to_ms t) 23 _ (ms_past k t w h) (λ z. omega arith) refl)
 
   answer_is : (t : ℕ) → IsAnswered k t → answer k t ≡ quotient k t
   unfolding value_number

@@ -13,7 +13,7 @@ use Rattle.base.specs.Below.{tabulate}
 use Rattle.base.proofs.Choices.{and_right, either}
 use Rattle.base.proofs.Loops.{any_false, lowest_none, smallest_at, smallest_is, tabulate_length, tabulate_at}
 use Rattle.kernel.specs.declared.control.TaskId.{TaskId}
-use Rattle.kernel.specs.declared.control.OptionTaskId.TheVariants.{Some}
+use Rattle.kernel.specs.Types.{Some}
 use Rattle.kernel.specs.declared.control.TaskControl.{TaskControl}
 use Rattle.kernel.specs.declared.control.TaskState.{TaskState}
 use Rattle.kernel.specs.declared.control.TaskState.TheVariants.{Ready, Running, Blocked, Sleeping, Suspended, Terminated}

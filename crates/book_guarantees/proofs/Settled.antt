@@ -8,8 +8,8 @@ use lib.Dec.{ltb}
 use Rattle.base.proofs.Choices.{not_clear, or_left, either}
 use Rattle.base.proofs.Loops.{set_each}
 use Rattle.kernel.specs.declared.control.TaskId.{TaskId}
-use Rattle.kernel.specs.declared.control.OptionTaskId.{OptionTaskId}
-use Rattle.kernel.specs.declared.control.OptionTaskId.TheVariants.{None, Some}
+use Rattle.kernel.specs.Types.{Option}
+use Rattle.kernel.specs.Types.{None, Some}
 use Rattle.kernel.specs.declared.control.LimitObject.{LimitObject}
 use Rattle.kernel.specs.declared.control.LimitObject.TheVariants.{NoLimit, AtSemaphore, AtEvent}
 use Rattle.kernel.specs.declared.control.TaskState.TheVariants.{Running, Blocked, Terminated}
@@ -55,7 +55,7 @@ event_clear k v x c h = set_each (λ _ y. Clear y) _ k.events v x h c
 id_clear : (k : Kernel) (a : TaskId) (f : TaskControl → TaskControl) → AllClear k → AllClear (at_id a f k)
 id_clear k a f c = id_each AllClear a f k (λ _ _. c) c
 
-waiter_clear : (k : Kernel) (a : OptionTaskId) → AllClear k → AllClear (wake_waiter a k)
+waiter_clear : (k : Kernel) (a : Option TaskId) → AllClear k → AllClear (wake_waiter a k)
 waiter_clear k None c = c
 waiter_clear k (Some a) c = id_clear k a _ c
 

@@ -36,7 +36,7 @@ use Rattle.kernel.proofs.Queue.{popped_length, popped_place}
 use Rattle.kernel.proofs.Tasks.{found_occupied, wake_is}
 use Rattle.kernel.proofs.Accepted.{accepted_is, accepted_object}
 use Rattle.kernel.proofs.Unlimited.{inside}
-use Rattle.kernel.proofs.Step.{step_accepted}
+use Rattle.kernel.proofs.Step.{number_accepted}
 use Rattle.kernel.proofs.Changes.{Change, task, begins, clock, permits, flag, handoff, owner, added, reaped, begun, turned, still}
 use Rattle.kernel.proofs.MadeOf.{heads}
 use Rattle.kernel.proofs.Whole.{is_whole}
@@ -209,7 +209,7 @@ unfolding step
 accepts k c = either (λ (a : Answer). a.number ≡ 0 → number k c ≡ 0) (eqb (number k c) 0) (λ e _. eqb-true _ _ e) (λ _ q. q)
 
 taken : (k : Kernel) (c : Call) → number k c ≡ 0 → accepted (value k c) (effect k c) ≡ step k c
-taken k c e = step_accepted k c (number k c) _ refl e refl
+taken k c e = number_accepted k c (number k c) _ refl e refl
 
 -- P of what an accepted call did holds of its step
 pub of_step : (P : Answer → Type 0) (k : Kernel) (c : Call) → number k c ≡ 0 → P (accepted (value k c) (effect k c)) → P (step k c)

@@ -3,7 +3,7 @@ use Rattle.std.specs.Prelude.{ℕ, ◌≤◌, ◌<◌, ◌≡◌, true, false, �
 use Rattle.base.specs.Choice.{if◌then◌otherwise◌}
 use Rattle.base.specs.Below.{tabulate}
 use Rattle.kernel.specs.declared.control.TaskId.{TaskId}
-use Rattle.kernel.specs.declared.control.OptionTaskId.TheVariants.{Some}
+use Rattle.kernel.specs.Types.{Some}
 use Rattle.kernel.specs.declared.control.TaskState.TheVariants.{Running, Blocked}
 use Rattle.kernel.specs.declared.scheduler.Kernel.{Kernel}
 use Rattle.kernel.specs.Control.{state_number, holds_task, in_state}

@@ -3,10 +3,7 @@ ghost use Rattle.std.specs.Prelude.{◌≡◌, true, ◌||◌, not};
 ghost use Rattle.kernel.specs.Kernel.{whole};
 ghost use Rattle.kernel.specs.Calls.{acquire, acquire_within, try_acquire, step};
 
-use crate::{
-    acquire_number, acquire_within_number, acquired, acquired_within, has_permit, tried,
-    try_acquire_number,
-};
+use crate::{acquired, acquired_within, check_acquire, check_acquire_within, has_permit, tried};
 use kernel::scheduler::{Answer, Kernel, Value};
 use leaf_table::internal::answer;
 
@@ -14,12 +11,10 @@ pub fn acquire(k: Kernel, known: bool, s: usize) -> Answer
     requires { (not known || whole k) ≡ true }
     ensures { result ≡ step k (acquire s) }
 {
-    let is_whole = leaf_whole::internal::is_whole(k, known);
-    let number = acquire_number(k, is_whole, s);
-    if number != 0 {
-        return answer::refused(number, k);
+    if let Err(refusal) = check_acquire(&k, known, s) {
+        return answer::refused(refusal, k);
     }
-    let got = has_permit(k, s);
+    let got = has_permit(&k, s);
     answer::accepted(Value::YesNo(got), acquired(k, s))
 }
 
@@ -27,12 +22,10 @@ pub fn acquire_within(k: Kernel, known: bool, s: usize, ticks: u64) -> Answer
     requires { (not known || whole k) ≡ true }
     ensures { result ≡ step k (acquire_within s ticks) }
 {
-    let is_whole = leaf_whole::internal::is_whole(k, known);
-    let number = acquire_within_number(k, is_whole, s, ticks);
-    if number != 0 {
-        return answer::refused(number, k);
+    if let Err(refusal) = check_acquire_within(&k, known, s, ticks) {
+        return answer::refused(refusal, k);
     }
-    let got = has_permit(k, s);
+    let got = has_permit(&k, s);
     answer::accepted(Value::YesNo(got), acquired_within(k, s, ticks))
 }
 
@@ -40,11 +33,9 @@ pub fn try_acquire(k: Kernel, known: bool, s: usize) -> Answer
     requires { (not known || whole k) ≡ true }
     ensures { result ≡ step k (try_acquire s) }
 {
-    let is_whole = leaf_whole::internal::is_whole(k, known);
-    let number = try_acquire_number(k, is_whole, s);
-    if number != 0 {
-        return answer::refused(number, k);
+    if let Err(refusal) = leaf_table::internal::check_object(&k, known, s) {
+        return answer::refused(refusal, k);
     }
-    let got = has_permit(k, s);
+    let got = has_permit(&k, s);
     answer::accepted(Value::YesNo(got), tried(k, s))
 }

@@ -3,7 +3,7 @@ ghost use Rattle.std.specs.Prelude.{◌≡◌, true, ◌||◌, not};
 ghost use Rattle.kernel.specs.Kernel.{whole};
 ghost use Rattle.kernel.specs.Calls.{add, add_words, step};
 
-use crate::{add_number, added};
+use crate::{added, check_add};
 use kernel::control::{Priority, StackRegion, TaskId};
 use kernel::scheduler::{Answer, Kernel, Value};
 use leaf_table::internal::answer;
@@ -18,12 +18,11 @@ pub fn add_task(
     requires { (not known || whole k) ≡ true }
     ensures { (result ≡ step k (add arena.old priority region)) × (arena.new ≡ add_words k priority region arena.old) }
 {
-    let is_whole = leaf_whole::internal::is_whole(k, known);
-    let number = add_number(k, is_whole, region, arena.len());
-    if number != 0 {
-        return answer::refused(number, k);
-    }
-    let id = TaskId(k.next_id as u32);
+    let i = match check_add(&k, known, region, arena.len()) {
+        Err(refusal) => return answer::refused(refusal, k),
+        Ok(i) => i,
+    };
     leaf_stack::internal::paint_region(arena, region);
-    answer::accepted(Value::Id(id), added(k, priority, region))
+    let id = TaskId(k.next_id as u32);
+    answer::accepted(Value::Id(id), added(k, i, priority, region))
 }

@@ -1,33 +1,38 @@
 // A new task: `add_task` of sched/scheduler.rs.
 #![tactic(auto)]
 
-ghost use Rattle.std.specs.Prelude.{List, length, drop, ◌≡◌, ◌&&◌, ◌<◌, ◌≤◌, ◌^◌, ℕ};
+ghost use Rattle.std.specs.Prelude.{drop, List, length, ◌≡◌, true, ◌||◌, not, IfSome, IfOk, unwrap_or, ◌&&◌, ◌<◌, ◌≤◌, ◌^◌, ℕ};
+ghost use Rattle.std.specs.List.{position, list_any};
 ghost use Rattle.kernel.specs.Control.{region_end, regions_overlap};
 ghost use Rattle.kernel.specs.Kernel.{whole};
 ghost use Rattle.kernel.specs.Scheduler;
 ghost use Rattle.kernel.specs.Scheduler.{lowest_empty, overlaps_present};
 ghost use Rattle.kernel.specs.declared.control.Priority.{Priority as PriorityValue};
-ghost use Rattle.kernel.specs.Calls.{add, add_words, step, first_of, checks, number};
+ghost use Rattle.kernel.specs.Refusal.{number_of};
+ghost use Rattle.kernel.specs.Calls.{add, add_words, step, number, first_of, checks};
 
 use kernel::control::{Priority, StackRegion, TaskControl, TaskId};
-use kernel::scheduler::{Answer, Kernel};
-use leaf_table::internal::answer;
+use kernel::scheduler::{Answer, Kernel, Refusal};
 
 pub mod internal;
 
-// The lowest empty slot; 16 where there is none.
-fn free_slot(k: Kernel) -> usize
-    ensures { result ≡ lowest_empty k }
+// The place of the first slot that is not occupied.
+fn first_empty(tasks: &[TaskControl]) -> Option<usize>
+    ensures { result ≡ position (λ t. not t.occupied) tasks.now }
 {
-    for i in 0..Kernel::MAX_TASKS {
-        let t = k.tasks[i];
-        if !t.occupied {
-            return i;
-        }
-    }
-    Kernel::MAX_TASKS
+    tasks.iter().position(|t| !t.occupied)
 }
 
+// The lowest empty slot.
+#[tactic(auto, using(base::proofs::Lists::position_lowest, base::proofs::Lists::position_below), unfolding(kernel::specs::Scheduler::lowest_empty))]
+fn free_slot(k: &Kernel) -> Option<usize>
+    ensures place { unwrap_or result 16 ≡ lowest_empty k.now }
+    ensures below { IfSome result (λ i. i < 16) }
+{
+    first_empty(&k.tasks)
+}
+
+#[tactic(auto, unfolding(kernel::specs::Control::regions_overlap))]
 fn regions_overlap(r: StackRegion, s: StackRegion) -> bool
     ensures { result ≡ regions_overlap r s }
 {
@@ -36,62 +41,59 @@ fn regions_overlap(r: StackRegion, s: StackRegion) -> bool
     ((r.start as u64) < s_end) & ((s.start as u64) < r_end)
 }
 
-fn overlaps(t: TaskControl, region: StackRegion) -> bool
-    ensures { result ≡ (t.occupied && regions_overlap region t.stack) }
+// Whether the region overlaps one of an occupied slot of these.
+fn overlaps(tasks: &[TaskControl], region: StackRegion) -> bool
+    ensures { result ≡ list_any (λ t. t.occupied && regions_overlap region t.stack) tasks.now }
 {
-    let stack = t.stack;
-    t.occupied & regions_overlap(region, stack)
+    tasks
+        .iter()
+        .any(|t| t.occupied & regions_overlap(region, t.stack))
 }
 
 // Whether the region overlaps one that is present.
-fn overlaps_present(k: Kernel, region: StackRegion) -> bool
-    ensures { result ≡ overlaps_present region k }
+fn overlaps_present(k: &Kernel, region: StackRegion) -> bool
+    ensures { result ≡ overlaps_present region k.now }
 {
-    let mut found = false;
-    for i in 0..Kernel::MAX_TASKS {
-        found = found | overlaps(k.tasks[i], region);
+    overlaps(&k.tasks, region)
+}
+
+// The slot for the new task, if the region fits and there is an id left.
+#[tactic(auto, using(base::proofs::Choices::taken, base::proofs::Choices::left, base::proofs::Choices::tests, crate::proofs::Laws::slot_found))]
+fn check_room(k: &Kernel, region: StackRegion) -> Result<usize, Refusal>
+    ensures number { (arena : List ℕ) (p : PriorityValue) → number_of result ≡ first_of (drop 1 (checks k.now (add arena p region))) }
+    ensures slot { IfOk result (λ i. i ≡ lowest_empty k.now) }
+{
+    let i = free_slot(k).ok_or(Refusal::NoEmptySlot)?;
+    if !leaf_whole::internal::region_fits(region, k.arena_words) | overlaps_present(k, region) {
+        return Err(Refusal::UnfitRegion);
     }
-    found
+    if TaskId::LAST < k.next_id {
+        return Err(Refusal::NoIdLeft);
+    }
+    Ok(i)
 }
 
-// 4 no empty slot; 5 the region; 6 no id left.
-fn add_late_number(k: Kernel, region: StackRegion) -> u8
-    ensures { (arena : List ℕ) (p : PriorityValue) → result ≡ first_of (drop 1 (checks k (add arena p region))) }
+fn check_add(k: &Kernel, known: bool, region: StackRegion, words: usize) -> Result<usize, Refusal>
+    requires { (not known || whole k.now) ≡ true }
+    ensures number { (arena : List ℕ) (p : PriorityValue) → length arena ≡ words → number_of result ≡ number k.now (add arena p region) }
+    ensures slot { IfOk result (λ i. i ≡ lowest_empty k.now) }
 {
-    let full = Kernel::MAX_TASKS <= free_slot(k);
-    let words = k.arena_words;
-    let unfit = !leaf_whole::internal::region_fits(region, words) | overlaps_present(k, region);
-    let spent = TaskId::LAST < k.next_id;
-    answer::refuse_if(
-        full,
-        4,
-        answer::refuse_if(unfit, 5, answer::refuse_if(spent, 6, 0)),
-    )
+    leaf_whole::internal::check(k, known)?;
+    if words != k.arena_words as usize {
+        return Err(Refusal::NotWhole);
+    }
+    check_room(k, region)
 }
 
-fn add_number(k: Kernel, is_whole: bool, region: StackRegion, words: usize) -> u8
-    requires { is_whole ≡ whole k }
-    ensures { (arena : List ℕ) (p : PriorityValue) → length arena ≡ words → result ≡ number k (add arena p region) }
-{
-    let fits = words == k.arena_words as usize;
-    answer::refuse_if(
-        !is_whole,
-        1,
-        answer::refuse_if(!fits, 1, add_late_number(k, region)),
-    )
-}
-
-fn added(mut k: Kernel, priority: Priority, region: StackRegion) -> Kernel
-    requires { (lowest_empty k < 16) × (region_end region < 2 ^ 32) × (k.next_id ≤ 4294967295) × (k.task_count ≤ 16) }
+#[tactic(auto, unfolding(kernel::specs::Scheduler::add))]
+fn added(mut k: Kernel, i: usize, priority: Priority, region: StackRegion) -> Kernel
+    requires { (i ≡ lowest_empty k) × (lowest_empty k < 16) × (region_end region < 2 ^ 32) × (k.next_id ≤ 4294967295) × (k.task_count ≤ 16) }
     ensures { result ≡ Scheduler.add priority region k }
 {
-    let i = free_slot(k);
-    let id = TaskId(k.next_id as u32);
-    let next = TaskControl::new(id, priority, region);
-    k.tasks[i] = next;
+    k.tasks[i] = TaskControl::new(TaskId(k.next_id as u32), priority, region);
     k.charges[i] = 0;
-    k.next_id = k.next_id + 1;
-    k.task_count = k.task_count + 1;
+    k.next_id += 1;
+    k.task_count += 1;
     k
 }
 

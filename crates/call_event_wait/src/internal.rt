@@ -3,7 +3,7 @@ ghost use Rattle.std.specs.Prelude.{◌≡◌, true, ◌||◌, not};
 ghost use Rattle.kernel.specs.Kernel.{whole};
 ghost use Rattle.kernel.specs.Calls.{event_wait, event_wait_within, step};
 
-use crate::{wait_number, wait_within_number, waited, waited_within};
+use crate::{check_wait, check_wait_within, waited, waited_within};
 use kernel::scheduler::{Answer, Kernel, Value};
 use leaf_table::internal::answer;
 
@@ -11,10 +11,8 @@ pub fn wait(k: Kernel, known: bool, e: usize) -> Answer
     requires { (not known || whole k) ≡ true }
     ensures { result ≡ step k (event_wait e) }
 {
-    let is_whole = leaf_whole::internal::is_whole(k, known);
-    let number = wait_number(k, is_whole, e);
-    if number != 0 {
-        return answer::refused(number, k);
+    if let Err(refusal) = check_wait(&k, known, e) {
+        return answer::refused(refusal, k);
     }
     let got = k.events[e].signaled;
     answer::accepted(Value::YesNo(got), waited(k, e))
@@ -24,10 +22,8 @@ pub fn wait_within(k: Kernel, known: bool, e: usize, ticks: u64) -> Answer
     requires { (not known || whole k) ≡ true }
     ensures { result ≡ step k (event_wait_within e ticks) }
 {
-    let is_whole = leaf_whole::internal::is_whole(k, known);
-    let number = wait_within_number(k, is_whole, e, ticks);
-    if number != 0 {
-        return answer::refused(number, k);
+    if let Err(refusal) = check_wait_within(&k, known, e, ticks) {
+        return answer::refused(refusal, k);
     }
     let got = k.events[e].signaled;
     answer::accepted(Value::YesNo(got), waited_within(k, e, ticks))

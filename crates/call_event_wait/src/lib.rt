@@ -1,48 +1,42 @@
 // Wait for an event: synchronization/event.rs of the source.
 #![tactic(auto)]
 
-ghost use Rattle.std.specs.Prelude.{drop, ◌≡◌, ◌<◌};
+ghost use Rattle.std.specs.Prelude.{drop, ◌≡◌, true, ◌||◌, not, ◌<◌};
 ghost use Rattle.kernel.specs.Kernel.{current, whole};
 ghost use Rattle.kernel.specs.Event.{signal_taken, blocked_on_event};
+ghost use Rattle.kernel.specs.Refusal.{number_of};
 ghost use Rattle.kernel.specs.Calls.{event_wait, event_wait_within, number, effect, step, first_of, checks};
 
 use kernel::control::{LimitObject, TaskState};
-use kernel::event::Event;
-use kernel::scheduler::{Answer, Kernel};
-use leaf_table::internal::answer;
+use kernel::scheduler::{Answer, Kernel, Refusal};
 
 pub mod internal;
 
-// 12 it would block, eight are queued and current is not among them.
-fn wait_late_number(k: Kernel, e: usize) -> u8
-    requires { (current k < 16) × (e < 4) }
-    ensures { result ≡ first_of (drop 2 (checks k (event_wait e))) }
+// Full: it would block, eight are queued and current is not among them.
+fn check_queue(k: &Kernel, e: usize) -> Result<(), Refusal>
+    requires { (current k.now < 16) × (e < 4) }
+    ensures { number_of result ≡ first_of (drop 2 (checks k.now (event_wait e))) }
 {
-    let t = leaf_table::internal::current_task(k);
-    let id = t.id;
-    let x = k.events[e];
-    let q = x.waiters;
-    answer::refuse_if(!x.signaled & leaf_queue::no_room(q, id), 12, 0)
+    let id = leaf_table::internal::current_id(k);
+    if !k.events[e].signaled & leaf_queue::no_room(k.events[e].waiters, id) {
+        return Err(Refusal::QueueFull);
+    }
+    Ok(())
 }
 
-fn wait_number(k: Kernel, is_whole: bool, e: usize) -> u8
-    requires { is_whole ≡ whole k }
-    ensures { result ≡ number k (event_wait e) }
+fn check_wait(k: &Kernel, known: bool, e: usize) -> Result<(), Refusal>
+    requires { (not known || whole k.now) ≡ true }
+    ensures { number_of result ≡ number k.now (event_wait e) }
 {
-    let first = leaf_table::internal::object_number(k, is_whole, e);
-    if first != 0 {
-        return first;
-    }
-    wait_late_number(k, e)
+    leaf_table::internal::check_started_object(k, known, e)?;
+    check_queue(k, e)
 }
 
 fn signal_taken(mut k: Kernel, e: usize) -> Kernel
     requires { e < 4 }
     ensures { result ≡ signal_taken e k }
 {
-    let mut x = k.events[e];
-    x.signaled = false;
-    k.events[e] = x;
+    k.events[e].signaled = false;
     k
 }
 
@@ -50,16 +44,8 @@ fn blocked(mut k: Kernel, e: usize) -> Kernel
     requires { (current k < 16) × (e < 4) }
     ensures { result ≡ blocked_on_event e k }
 {
-    let t = leaf_table::internal::current_task(k);
-    let id = t.id;
-    let x = k.events[e];
-    let q = x.waiters;
-    let waiters = leaf_queue::queued(q, id);
-    let next = Event {
-        signaled: x.signaled,
-        waiters,
-    };
-    k.events[e] = next;
+    let id = leaf_table::internal::current_id(&k);
+    k.events[e].waiters = leaf_queue::queued(k.events[e].waiters, id);
     leaf_table::internal::set_status(k, TaskState::Blocked)
 }
 
@@ -83,18 +69,15 @@ pub fn wait(k: Kernel, e: usize) -> Answer
 
 // ---- with a limit
 
-fn wait_within_number(k: Kernel, is_whole: bool, e: usize, ticks: u64) -> u8
-    requires { is_whole ≡ whole k }
-    ensures { result ≡ number k (event_wait_within e ticks) }
+fn check_wait_within(k: &Kernel, known: bool, e: usize, ticks: u64) -> Result<(), Refusal>
+    requires { (not known || whole k.now) ≡ true }
+    ensures { number_of result ≡ number k.now (event_wait_within e ticks) }
 {
-    let first = leaf_table::internal::object_number(k, is_whole, e);
-    if first != 0 {
-        return first;
-    }
+    leaf_table::internal::check_started_object(k, known, e)?;
     if ticks == 0 {
-        return 7;
+        return Err(Refusal::UnfitOperand);
     }
-    wait_late_number(k, e)
+    check_queue(k, e)
 }
 
 #[tactic(auto, using(base::proofs::Choices::taken, base::proofs::Choices::left, base::proofs::Choices::tests), unfolding(kernel::specs::Calls::effect, kernel::specs::Event::event_wait_within))]
@@ -105,8 +88,7 @@ fn waited_within(k: Kernel, e: usize, ticks: u64) -> Kernel
     if k.events[e].signaled {
         return signal_taken(k, e);
     }
-    let object = LimitObject::AtEvent(e as u8);
-    leaf_table::internal::limited(blocked(k, e), object, ticks)
+    leaf_table::internal::limited(blocked(k, e), LimitObject::AtEvent(e as u8), ticks)
 }
 
 // As `wait`, for so many ticks at most. Refused: 1, 20, 2, 7 a limit of 0, and 12.

@@ -3,7 +3,7 @@ ghost use Rattle.std.specs.Prelude.{◌≡◌, true, ◌||◌, not};
 ghost use Rattle.kernel.specs.Kernel.{whole};
 ghost use Rattle.kernel.specs.Calls.{exit, step};
 
-use crate::{exit_number, exited};
+use crate::{check_exit, exited};
 use kernel::scheduler::{Answer, Kernel, Value};
 use leaf_table::internal::answer;
 
@@ -12,10 +12,8 @@ pub fn exit_current_task(k: Kernel, known: bool) -> Answer
     requires { (not known || whole k) ≡ true }
     ensures { result ≡ step k exit }
 {
-    let is_whole = leaf_whole::internal::is_whole(k, known);
-    let number = exit_number(k, is_whole);
-    if number != 0 {
-        return answer::refused(number, k);
+    if let Err(refusal) = check_exit(&k, known) {
+        return answer::refused(refusal, k);
     }
     answer::accepted(Value::Nothing, exited(k))
 }

@@ -1,58 +1,55 @@
 // Exit: sched/scheduler.rs of the source.
 #![tactic(auto)]
 
-ghost use Rattle.std.specs.Prelude.{drop, ◌≡◌, ◌<◌};
+ghost use Rattle.std.specs.Prelude.{drop, ◌≡◌, true, ◌||◌, not, ◌<◌};
 ghost use Rattle.kernel.specs.Kernel.{current, whole};
 ghost use Rattle.kernel.specs.Scheduler.{terminated, wake_waiter};
+ghost use Rattle.kernel.specs.Refusal.{number_of};
 ghost use Rattle.kernel.specs.Calls.{exit, number, effect, step, first_of, checks};
 
-use kernel::control::{OptionTaskId, TaskControl, TaskState};
-use kernel::scheduler::{Answer, Kernel};
-use leaf_table::internal::answer;
+use kernel::control::{SlotIndex, TaskControl, TaskId, TaskState};
+use kernel::scheduler::{Answer, Kernel, Refusal};
 
 pub mod internal;
 
-// 10 current is slot 0; 11 owns a mutex.
-fn exit_late_number(k: Kernel) -> u8
-    requires { current k < 16 }
-    ensures { result ≡ first_of (drop 1 (checks k exit)) }
+// Whether current may exit: not slot 0, nor an owner.
+#[tactic(auto, using(base::proofs::Choices::taken, base::proofs::Choices::left, base::proofs::Choices::tests))]
+fn check_current(k: &Kernel) -> Result<(), Refusal>
+    requires { current k.now < 16 }
+    ensures { number_of result ≡ first_of (drop 1 (checks k.now exit)) }
 {
-    let t = leaf_table::internal::current_task(k);
-    let idle = k.current.0 == 0;
-    answer::refuse_if(idle, 10, answer::refuse_if(0 < t.owned_mutex_count, 11, 0))
+    if k.current == SlotIndex(0) {
+        return Err(Refusal::IdleExits);
+    }
+    if 0 < leaf_table::internal::current_task(k).owned_mutex_count {
+        return Err(Refusal::OwnsMutex);
+    }
+    Ok(())
 }
 
-#[tactic(auto, using(base::proofs::Choices::taken, base::proofs::Choices::left, base::proofs::Choices::tests), unfolding(kernel::specs::Calls::number))]
-fn exit_number(k: Kernel, is_whole: bool) -> u8
-    requires { is_whole ≡ whole k }
-    ensures { result ≡ number k exit }
+fn check_exit(k: &Kernel, known: bool) -> Result<(), Refusal>
+    requires { (not known || whole k.now) ≡ true }
+    ensures { number_of result ≡ number k.now exit }
 {
-    if !is_whole {
-        return 1;
-    }
-    if !k.started {
-        return 2;
-    }
-    exit_late_number(k)
+    leaf_table::internal::check_started(k, known)?;
+    check_current(k)
 }
 
-fn terminated(t: TaskControl) -> TaskControl
+fn terminated(mut t: TaskControl) -> TaskControl
     ensures { result ≡ terminated t }
 {
-    let mut next = t
-        .entered(TaskState::Terminated)
-        .with_waiter(OptionTaskId::None);
-    next.remaining_slice = 0;
-    next.wake_tick = 0;
-    next
+    t = t.entered(TaskState::Terminated).with_waiter(None);
+    t.remaining_slice = 0;
+    t.wake_tick = 0;
+    t
 }
 
-fn wake_waiter(k: Kernel, waiter: OptionTaskId) -> Kernel
+fn wake_waiter(k: Kernel, waiter: Option<TaskId>) -> Kernel
     ensures { result ≡ wake_waiter waiter k }
 {
     match waiter {
-        OptionTaskId::None => k,
-        OptionTaskId::Some(id) => leaf_table::internal::wake(k, id),
+        None => k,
+        Some(id) => leaf_table::internal::wake(k, id),
     }
 }
 
@@ -62,10 +59,8 @@ fn exited(mut k: Kernel) -> Kernel
     ensures { result ≡ effect k exit }
 {
     let i = k.current.0;
-    let t = k.tasks[i];
-    let waiter = t.waiter;
-    let next = terminated(t);
-    k.tasks[i] = next;
+    let waiter = k.tasks[i].waiter;
+    k.tasks[i] = terminated(k.tasks[i]);
     wake_waiter(k, waiter)
 }
 

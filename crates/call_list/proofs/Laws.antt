@@ -1,48 +1,42 @@
--- The rows grow slot by slot, and what they make of the records that are lent.
+-- The records grow slot by slot, in the slice that is lent.
 use Prim.Native.Nat.{ℕ, zero, suc, ◌+◌, ◌≤◌, ◌<◌}
 use native.Mathlib.Omega.{arith}
 use native.Mathlib.Numerals.{add-one}
+use native.Mathlib.Nat.{le_refl}
+use native.Mathlib.Decide.{ℕ_discrete}
 use mathlib.Core.Path.{◌≡◌, refl, sym, ap, ◌∙◌}
 use mathlib.Core.Bool.{Bool, true, false}
 use mathlib.Core.List.{List, [], ◌∷◌, ◌++◌, append_assoc}
-use lib.Dec.{eqb}
-use lib.ListN.{length, set, take, drop, get_or, replicate, length-set, length-replicate, length-append}
-use lib.Seq.{take-suc-set, take-suc, drop-cons, set_at, length-take-le}
-use borrow.Author.Tests.{eqb-true, eq-eqb, ne_eqb, ltb-false}
+use lib.ListN.{length, get_or, set, drop, length-append}
+use lib.Seq.{drop-cons, set_at}
+use borrow.Author.Tests.{eqb-true, ltb-false, ne_eqb}
+use Rattle.std.specs.declared.result.Result.{Result}
+use Rattle.std.specs.declared.result.Result.TheVariants.{Ok, Err}
 use Rattle.base.specs.Choice.{if◌then◌otherwise◌}
 use Rattle.base.specs.Below.{count_below}
-use Rattle.base.proofs.Choices.{taken, left, not_clear}
-use Rattle.base.proofs.Loops.{count_le}
+use Rattle.base.proofs.Choices.{either, taken, left, not_clear}
 use Rattle.kernel.specs.declared.control.TaskInfo.{TaskInfo}
 use Rattle.kernel.specs.declared.scheduler.Kernel.{Kernel}
-use Rattle.kernel.specs.declared.scheduler.Value.TheVariants.{Count}
-use Rattle.kernel.specs.declared.scheduler.Answer.{Answer}
+use Rattle.kernel.specs.declared.scheduler.Refusal.{Refusal}
 use Rattle.kernel.specs.Kernel.{slot, is_occupied, whole}
-use Rattle.kernel.specs.Calls
-use Rattle.kernel.proofs.Whole.{is_whole}
+use Rattle.kernel.specs.Refusal.{refusal_number, number_of}
+use Rattle.kernel.specs.Calls.{list, number, task_info, task_infos, list_records}
 use Rattle.kernel.proofs.Accepted.{accepted_whole, accepted_at}
-use Rattle.kernel.specs.Calls.{number, value, effect, refused, accepted, step, task_info, task_infos, list_records}
-use Rattle.call_list.specs.declared.Rows.{Rows}
-use Rattle.call_list.specs.declared.Plan.{Plan}
-use Rattle.call_list.specs.Records.{blank_info, no_rows, with_row, IsRows, NumberFor, IsPlan}
+use Rattle.kernel.proofs.Refusal.{nonzero_refusal, refused_number, accepted_number}
+use Rattle.call_list.specs.Records.{blank_info}
 
--- ---- the rows
+-- ---- counts
 
-pub rows_start : (k : Kernel) (arena : List ℕ) → IsRows k arena 0 no_rows
-unfolding task_infos count_below
-rows_start k arena = record { full = length-replicate 16 blank_info; count = refl; infos = refl }
-
-one_more : (b : Bool) (info : TaskInfo) (infos : List TaskInfo) (n : ℕ) (r r' : Rows) → r' ≡ (if b then with_row info r otherwise r) → length r.rows ≡ 16 → r.len < 16 → r.len ≡ n → take r.len r.rows ≡ infos
-    → (length r'.rows ≡ 16) × (r'.len ≡ (if b then suc n otherwise n)) × (take r'.len r'.rows ≡ (if b then infos ++ (info ∷ []) otherwise infos))
-unfolding if◌then◌otherwise◌
-one_more true info infos n r r' e l h c t = rw e (length-set r.rows r.len info ∙ l, add-one r.len ∙ ap suc c, rw (add-one r.len, take-suc-set r.rows r.len info (omega arith), t))
-one_more false info infos n r r' e l h c t = rw e (l, c, t)
-
-pub rows_more : (k : Kernel) (arena : List ℕ) (n : ℕ) (r r' : Rows) → IsRows k arena n r → n < 16 → r' ≡ (if (slot k n).occupied then with_row (task_info arena (slot k n)) r otherwise r) → IsRows k arena (n + 1) r'
-unfolding task_infos count_below
-rows_more k arena n r r' is h e =
-    let m = one_more (slot k n).occupied (task_info arena (slot k n)) (task_infos k arena n) (count_below (is_occupied k) n) r r' e is.full (omega (arith, is.count, count_le (is_occupied k) n)) is.count is.infos in
-    rw add-one (record { full = m.0; count = m.1; infos = m.2 })
+-- fewer of them count no more
+pub count_upto : (p : ℕ → Bool) (m n : ℕ) → m ≤ n → count_below p m ≤ count_below p n
+unfolding count_below
+count_upto p zero n h = omega arith
+count_upto p (suc m) zero h = absurd (omega arith)
+count_upto p (suc m) (suc n) h =
+    elim (ℕ_discrete m n) [
+      | yes e ↦ rw e (le_refl _)
+      | no e ↦ either (λ x. count_below p (suc m) ≤ x) (p n) (λ _. omega (arith, count_upto p (suc m) n (omega arith))) (λ _. count_upto p (suc m) n (omega arith))
+    ]
 
 -- as many as there are tasks
 pub infos_count : (k : Kernel) (arena : List ℕ) (n : ℕ) → length (task_infos k arena n) ≡ count_below (is_occupied k) n
@@ -54,52 +48,61 @@ infos_count k arena (suc n) = one_more (slot k n).occupied (infos_count k arena 
     one_more true e = length-append (task_infos k arena n) (task_info arena (slot k n) ∷ []) ∙ omega (arith, e)
     one_more false e = e
 
--- ---- the records with the first i written
-abbrev pub filled : List TaskInfo → ℕ → List TaskInfo → List TaskInfo
-filled xs i ys = take i xs ++ drop i ys
+-- ---- the records: n of them are written once i slots are walked, the others are as they were
 
-pub filled_more : (xs : List TaskInfo) (i : ℕ) (ys : List TaskInfo) → i < length xs → i < length ys → set (filled xs i ys) i (get_or xs i blank_info) ≡ filled xs (i + 1) ys
-filled_more xs i ys h g =
-    rw (add-one i, take-suc xs i blank_info h, drop-cons ys i blank_info g, set_at (take i xs) (get_or ys i blank_info) (drop (suc i) ys) (get_or xs i blank_info) i (length-take-le i xs (omega arith)), append_assoc)
+pub record Written (k : Kernel) (arena : List ℕ) (before : List TaskInfo) (i n : ℕ) (records : List TaskInfo) : Type 0 where
+  pub count : n ≡ count_below (is_occupied k) i
+  pub records_are : records ≡ task_infos k arena i ++ drop n before
 
--- ---- the plan
+pub written_start : (k : Kernel) (arena : List ℕ) (before : List TaskInfo) → Written k arena before 0 0 before
+unfolding task_infos count_below
+written_start k arena before = record { count = refl; records_are = refl }
 
-pub plan_refused : (k : Kernel) (arena : List ℕ) (room n : ℕ) (p : Plan) → NumberFor k arena room n → (n ≡ 0 → ⊥) → p.number ≡ n → p.rows ≡ no_rows → (records : List TaskInfo) → length records ≡ room → IsPlan k arena records p
+-- there is room for one more
+pub written_room : {k : Kernel} {arena : List ℕ} {before : List TaskInfo} {i n : ℕ} {records : List TaskInfo} → Written k arena before i n records → i < 16 → (slot k i).occupied ≡ true → count_below (is_occupied k) 16 ≤ length before → n < length before
+unfolding count_below if◌then◌otherwise◌
+written_room {k} {i = i} w h e l =
+    let one : count_below (is_occupied k) (suc i) ≡ suc (count_below (is_occupied k) i) = rw e refl in
+    omega (arith, w.count, one, count_upto (is_occupied k) (suc i) 16 (omega arith))
+
+-- one more is written behind the others
+more : (infos before : List TaskInfo) (n : ℕ) (x : TaskInfo) → length infos ≡ n → n < length before → set (infos ++ drop n before) n x ≡ (infos ++ (x ∷ [])) ++ drop (n + 1) before
+more infos before n x l h =
+    rw (add-one n, drop-cons before n blank_info h, set_at infos (get_or before n blank_info) (drop (suc n) before) x n l, append_assoc)
+    refl
+
+pub written_more : {k : Kernel} {arena : List ℕ} {before : List TaskInfo} {i n : ℕ} {records : List TaskInfo} → Written k arena before i n records → (slot k i).occupied ≡ true → n < length before → Written k arena before (i + 1) (n + 1) (set records n (task_info arena (slot k i)))
+unfolding task_infos count_below if◌then◌otherwise◌
+written_more {k} {arena} {before} {i} {n} w e h =
+    let l : length (task_infos k arena i) ≡ n = infos_count k arena i ∙ sym w.count in
+    rw (add-one i) (record {
+      count = rw (e, w.count) (add-one _);
+      records_are = rw (w.records_are, e) (more (task_infos k arena i) before n (task_info arena (slot k i)) l h);
+    })
+
+pub written_other : {k : Kernel} {arena : List ℕ} {before : List TaskInfo} {i n : ℕ} {records : List TaskInfo} → Written k arena before i n records → (slot k i).occupied ≡ false → Written k arena before (i + 1) n records
+unfolding task_infos count_below if◌then◌otherwise◌
+written_other {i = i} w e = rw (add-one i) (record { count = rw e w.count; records_are = rw e w.records_are })
+
+pub written_done : {k : Kernel} {arena : List ℕ} {before : List TaskInfo} {i n : ℕ} {records : List TaskInfo} → Written k arena before i n records → i ≡ 16 → records ≡ task_infos k arena 16 ++ drop (length (task_infos k arena 16)) before
+written_done {k} {arena} {before} {i} {n} w q =
+    let l : length (task_infos k arena i) ≡ n = infos_count k arena i ∙ sym w.count in
+    w.records_are
+    ∙ ap (λ (m : ℕ). task_infos k arena i ++ drop m before) (sym l)
+    ∙ ap (λ (m : ℕ). task_infos k arena m ++ drop (length (task_infos k arena m)) before) q
+
+-- ---- what the call makes of the records that are lent; x is what its checks gave
+
+pub list_kept : {A : Type 0} (k : Kernel) (arena : List ℕ) (records : List TaskInfo) (x : Result A Refusal) (r : Refusal) → number_of x ≡ number k (list arena records) → x ≡ Err r → records ≡ list_records k arena records
 unfolding list_records
-plan_refused k arena room n p e h a q records l =
-    let m = e records l in
-    record {
-      numbered = a ∙ m;
-      written = rw q (left _ _ _ _ (rw (← m) (ne_eqb n 0 h)) refl);
-      full = rw q (length-replicate 16 blank_info);
-      few = rw q (omega arith);
-      fit = rw q (omega arith);
-    }
+list_kept k arena records x r e h = let n = refused_number x r _ e h in left _ _ _ _ (rw (← n) (ne_eqb (refusal_number r) 0 (nonzero_refusal r))) refl
 
--- some records are as many as that
-pub accepted_first : (k : Kernel) (arena : List ℕ) (room n : ℕ) → NumberFor k arena room n → n ≡ 0 → (whole k ≡ true) × (length arena ≡ k.arena_words) × (k.task_count ≤ room)
-accepted_first k arena room n e z =
-    let records = replicate room blank_info in
-    let l = length-replicate room blank_info in
-    let c = Calls.list arena records in
-    let m = sym (e records l) ∙ z in
-    (accepted_whole k c m, eqb-true _ _ (not_clear _ (accepted_at k c 0 refl m)), omega (arith, l, ltb-false (length records) k.task_count (accepted_at k c 1 refl m)))
-
-pub plan_accepted : (k : Kernel) (arena : List ℕ) (room n : ℕ) (p : Plan) → NumberFor k arena room n → n ≡ 0 → p.number ≡ n → IsRows k arena 16 p.rows → (records : List TaskInfo) → length records ≡ room → IsPlan k arena records p
+pub list_written : {A : Type 0} (k : Kernel) (arena : List ℕ) (records new : List TaskInfo) (x : Result A Refusal) (u : A) → number_of x ≡ number k (list arena records) → x ≡ Ok u → new ≡ task_infos k arena 16 ++ drop (length (task_infos k arena 16)) records → new ≡ list_records k arena records
 unfolding list_records
-plan_accepted k arena room n p e z a is records l =
-    let m = e records l in
-    let f = accepted_first k arena room n e z in
-    let few : p.rows.len ≤ 16 = omega (arith, is.count, count_le (is_occupied k) 16) in
-    let many : length (task_infos k arena 16) ≡ p.rows.len = infos_count k arena 16 ∙ sym is.count in
-    record {
-      numbered = a ∙ m;
-      written = taken _ _ _ _ (rw (← m) (eq-eqb n 0 z)) (rw (many, is.infos));
-      full = is.full;
-      few = few;
-      fit = omega (arith, f.2, is.count, (is_whole k f.0).count);
-    }
+list_written k arena records new x u e h g = taken _ _ _ _ (rw (accepted_number x u _ e h) refl) g
 
-pub answer_is : (k : Kernel) (arena : List ℕ) (records : List TaskInfo) (n : ℕ) (r : Answer) → n ≡ number k (Calls.list arena records) → r ≡ (if eqb n 0 then accepted (Count k.task_count) k otherwise refused n k) → r ≡ step k (Calls.list arena records)
-unfolding step value effect
-answer_is k arena records n r e a = a ∙ rw e
+-- an accepted call
+pub list_accepted : (k : Kernel) (arena : List ℕ) (records : List TaskInfo) → number k (list arena records) ≡ 0 → (whole k ≡ true) × (length arena ≡ k.arena_words) × (k.task_count ≤ length records)
+list_accepted k arena records e =
+    let c = list arena records in
+    (accepted_whole k c e, eqb-true _ _ (not_clear _ (accepted_at k c 0 refl e)), omega (arith, ltb-false (length records) k.task_count (accepted_at k c 1 refl e)))

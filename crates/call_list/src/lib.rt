@@ -5,37 +5,21 @@ ghost use Rattle.std.specs.Prelude.{◌≡◌, true, ◌++◌, ◌+◌, ◌-◌,
 ghost use Rattle.base.specs.Choice.{if◌then◌otherwise◌};
 ghost use Rattle.kernel.specs.Control.{stack_used};
 ghost use Rattle.kernel.specs.Kernel.{whole};
-ghost use Rattle.kernel.specs.Calls.{list, task_info, refused, accepted, step, list_records};
-ghost use Rattle.call_list.specs.Records.{blank_info, no_rows, with_row, IsRows, NumberFor, PlanFor};
+ghost use Rattle.kernel.specs.Refusal.{number_of};
+ghost use Rattle.kernel.specs.Calls.{list, task_info, task_infos, step, list_records};
+ghost use Rattle.call_list.specs.Records.{blank_info, NumberFor};
 
 use kernel::control::{Priority, StackRegion, TaskControl, TaskId, TaskInfo, TaskState};
-use kernel::scheduler::{Answer, Kernel, Value};
+use kernel::scheduler::{Answer, Kernel, Refusal, Value};
 use leaf_table::internal::answer;
-
-// The first `len` records are those of the occupied slots, in slot order.
-#[derive(Clone, Copy)]
-struct Rows {
-    rows: [TaskInfo; Kernel::MAX_TASKS],
-    len: usize,
-}
-
-// What a list call writes, decided before it does: a refused one has no rows.
-#[derive(Clone, Copy)]
-struct Plan {
-    rows: Rows,
-    number: u8,
-}
 
 fn blanks() -> [TaskInfo; Kernel::MAX_TASKS]
     ensures { result ≡ replicate 16 blank_info }
 {
-    let id = TaskId(0);
-    let state = TaskState::Ready;
-    let priority = Priority(0);
     let blank = TaskInfo {
-        id,
-        state,
-        priority,
+        id: TaskId(0),
+        state: TaskState::Ready,
+        priority: Priority(0),
         stack_used: 0,
         stack_total: 0,
     };
@@ -57,110 +41,39 @@ fn task_info(t: TaskControl, arena: &[u32]) -> TaskInfo
     requires { t.stack.start / 4 + t.stack.size / 4 ≤ length arena.now }
     ensures { result ≡ task_info arena.now t }
 {
-    let id = t.id;
-    let state = t.state;
-    let priority = t.priority;
-    let stack = t.stack;
-    let used = stack_used(stack, arena);
     TaskInfo {
-        id,
-        state,
-        priority,
-        stack_used: used,
-        stack_total: stack.size,
+        id: t.id,
+        state: t.state,
+        priority: t.priority,
+        stack_used: stack_used(t.stack, arena),
+        stack_total: t.stack.size,
     }
 }
 
-fn no_rows() -> Rows
-    ensures { result ≡ no_rows }
+fn check_list(k: &Kernel, arena: &[u32], room: usize) -> Result<(), Refusal>
+    ensures { NumberFor k.now arena.now room (number_of result) }
 {
-    Rows {
-        rows: blanks(),
-        len: 0,
+    leaf_whole::internal::check(k, false)?;
+    if arena.len() != k.arena_words as usize {
+        return Err(Refusal::NotWhole);
     }
-}
-
-// With one record more, where the slot is occupied.
-fn with_slot(mut r: Rows, t: TaskControl, arena: &[u32]) -> Rows
-    requires { (r.len < 16) × (t.occupied ≡ true → t.stack.start / 4 + t.stack.size / 4 ≤ length arena.now) }
-    ensures { result ≡ (if t.occupied then with_row (task_info arena.now t) r otherwise r) }
-{
-    if !t.occupied {
-        return r;
+    if room < k.task_count as usize {
+        return Err(Refusal::FewRecords);
     }
-    let info = task_info(t, arena);
-    let at = r.len;
-    r.rows[at] = info;
-    r.len = at + 1;
-    r
+    Ok(())
 }
 
-fn rows_of(k: Kernel, arena: &[u32]) -> Rows
-    requires { (whole k ≡ true) × (length arena.now ≡ k.arena_words) }
-    ensures { IsRows k arena.now 16 result }
+// A record of each task, in slot order; the later records are kept.
+fn write_records(k: Kernel, arena: &[u32], records: &mut [TaskInfo])
+    requires { (whole k ≡ true) × (length arena.now ≡ k.arena_words) × (k.task_count ≤ length records.old) }
+    ensures { records.new ≡ task_infos k arena.now 16 ++ drop (length (task_infos k arena.now 16)) records.old }
 {
-    let mut rows = no_rows();
-    for i in 0..Kernel::MAX_TASKS {
-        let t = k.tasks[i];
-        rows = with_slot(rows, t, arena);
-    }
-    rows
-}
-
-// 1 not whole, or an arena of another length; 21 fewer records than tasks.
-fn list_number(k: Kernel, arena: &[u32], room: usize) -> u8
-    ensures { NumberFor k arena.now room result }
-{
-    let whole = leaf_whole::internal::is_whole(k, false);
-    let fits = arena.len() == k.arena_words as usize;
-    let few = room < k.task_count as usize;
-    answer::refuse_if(
-        !whole,
-        1,
-        answer::refuse_if(!fits, 1, answer::refuse_if(few, 21, 0)),
-    )
-}
-
-// `room` is the number of records that are lent.
-fn planned(k: Kernel, arena: &[u32], room: usize) -> Plan
-    ensures { PlanFor k arena.now room result }
-{
-    let number = list_number(k, arena, room);
-    if number != 0 {
-        let rows = no_rows();
-        return Plan { rows, number };
-    }
-    let rows = rows_of(k, arena);
-    Plan { rows, number }
-}
-
-fn answered(k: Kernel, number: u8) -> Answer
-    ensures { result ≡ (if eqb number 0 then accepted (Value.Count k.task_count) k otherwise refused number k) }
-{
-    if number != 0 {
-        return answer::refused(number, k);
-    }
-    answer::accepted(Value::Count(k.task_count as usize), k)
-}
-
-fn row_at(rows: Rows, i: usize) -> TaskInfo
-    requires { i < 16 }
-    ensures { result ≡ get_or rows.rows i blank_info }
-{
-    rows.rows[i]
-}
-
-// The first records are written, the later ones kept.
-fn write_rows(records: &mut [TaskInfo], rows: Rows)
-    requires { (length rows.rows ≡ 16) × (rows.len ≤ 16) × (rows.len ≤ length records.old) }
-    ensures { records.new ≡ take rows.len rows.rows ++ drop rows.len records.old }
-{
-    let n = rows.len;
-    let mut i: usize = 0;
-    while i < n {
-        let r = row_at(rows, i);
-        records[i] = r;
-        i += 1;
+    let mut n = 0;
+    for t in &k.tasks {
+        if t.occupied {
+            records[n] = task_info(*t, arena);
+            n += 1;
+        }
     }
 }
 
@@ -168,9 +81,11 @@ fn write_rows(records: &mut [TaskInfo], rows: Rows)
 pub fn tasks(k: Kernel, arena: &[u32], records: &mut [TaskInfo]) -> Answer
     ensures { (result ≡ step k (list arena.now records.old)) × (records.new ≡ list_records k arena.now records.old) }
 {
-    let p = planned(k, arena, records.len());
-    write_rows(records, p.rows);
-    answered(k, p.number)
+    if let Err(refusal) = check_list(&k, arena, records.len()) {
+        return answer::refused(refusal, k);
+    }
+    write_records(k, arena, records);
+    answer::accepted(Value::Count(k.task_count as usize), k)
 }
 
 // The answer of a list call, and the records that it was made on.
@@ -180,36 +95,19 @@ pub struct Listed {
     pub records: [TaskInfo; Kernel::MAX_TASKS],
 }
 
-fn packed(answer: Answer, records: [TaskInfo; Kernel::MAX_TASKS]) -> Listed
-    ensures { (result.answer ≡ answer) × (result.records ≡ records) }
-{
-    Listed { answer, records }
-}
-
-// The smaller of `room` and sixteen.
-fn capped(room: usize) -> usize
-    ensures { result ≡ min room 16 }
-{
-    if room > Kernel::MAX_TASKS {
-        return Kernel::MAX_TASKS;
-    }
-    room
-}
-
 // The first `n` of sixteen blank records are lent.
 fn list_in(k: Kernel, arena: &[u32], n: usize) -> Listed
     requires { n ≤ 16 }
     ensures { (result.answer ≡ step k (list arena.now (replicate n blank_info))) × (result.records ≡ list_records k arena.now (replicate n blank_info) ++ replicate (16 - n) blank_info) }
 {
-    let mut out = blanks();
-    let answer = tasks(k, arena, &mut out[..n]);
-    packed(answer, out)
+    let mut records = blanks();
+    let answer = tasks(k, arena, &mut records[..n]);
+    Listed { answer, records }
 }
 
 // A list call on `room` blank records, sixteen where `room` is more; the records after them are blank.
 pub fn list_up_to(k: Kernel, arena: &[u32], room: usize) -> Listed
     ensures { (result.answer ≡ step k (list arena.now (replicate (min room 16) blank_info))) × (result.records ≡ list_records k arena.now (replicate (min room 16) blank_info) ++ replicate (16 - min room 16) blank_info) }
 {
-    let n = capped(room);
-    list_in(k, arena, n)
+    list_in(k, arena, room.min(Kernel::MAX_TASKS))
 }

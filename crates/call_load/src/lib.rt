@@ -1,14 +1,15 @@
 // Load per thousand: the share of a task in the ticks since the start, and the remainder.
 #![tactic(auto)]
 
-ghost use Rattle.std.specs.Prelude.{◌≡◌, true, ◌+◌, ◌*◌, ◌≤◌, ◌<◌};
-ghost use Rattle.kernel.specs.Kernel.{charge_sum, whole};
+ghost use Rattle.std.specs.Prelude.{◌≡◌, IfOk, true, ◌+◌, ◌*◌, ◌≤◌, ◌<◌};
+ghost use Rattle.kernel.specs.Kernel.{charge_sum, slot_of, whole};
 ghost use Rattle.kernel.specs.Load.{IsLoad};
-ghost use Rattle.kernel.specs.Calls.{load, step};
+ghost use Rattle.kernel.specs.Refusal.{number_of};
+ghost use Rattle.kernel.specs.Calls.{load, number, step};
 ghost use Rattle.call_load.specs.Part.{amount, AmountsTo};
 
 use kernel::control::TaskId;
-use kernel::scheduler::{Answer, Kernel, Value};
+use kernel::scheduler::{Answer, Kernel, Refusal, Value};
 use leaf_table::internal::answer;
 
 // So many times the ticks, and a remainder below them.
@@ -25,8 +26,8 @@ fn ticks_since_start(k: Kernel) -> u64
     ensures { result ≡ charge_sum k }
 {
     let mut sum = k.retired_charge;
-    for i in 0..Kernel::MAX_TASKS {
-        sum = sum + k.charges[i];
+    for charge in k.charges {
+        sum += charge;
     }
     sum
 }
@@ -93,21 +94,29 @@ fn thousandfold(charge: u64, ticks: u64) -> Part
     twice(p500, ticks)
 }
 
+// The slot of the task, and the ticks since the start.
+fn check_load(k: &Kernel, id: TaskId) -> Result<(usize, u64), Refusal>
+    ensures number { number_of result ≡ number k.now (load id) }
+    ensures found { IfOk result (λ r. (r.0 ≡ slot_of k.now id) × (r.1 ≡ charge_sum k.now)) }
+{
+    leaf_whole::internal::check(k, false)?;
+    let i = leaf_table::internal::slot_of(k, id).ok_or(Refusal::UnknownId)?;
+    let ticks = ticks_since_start(*k);
+    if ticks == 0 {
+        return Err(Refusal::NoTick);
+    }
+    Ok((i, ticks))
+}
+
 // In any state, started or not. Refused: 1, 8 and 24.
 pub fn load(k: Kernel, id: TaskId) -> Answer
     ensures { result ≡ step k (load id) }
 {
-    if !leaf_whole::internal::is_whole(k, false) {
-        return answer::refused(1, k);
+    match check_load(&k, id) {
+        Err(refusal) => answer::refused(refusal, k),
+        Ok((i, ticks)) => {
+            let p = thousandfold(k.charges[i], ticks);
+            answer::accepted(Value::Load(p.share, p.remainder), k)
+        },
     }
-    let i = leaf_table::internal::slot_of(k, id);
-    if Kernel::MAX_TASKS <= i {
-        return answer::refused(8, k);
-    }
-    let ticks = ticks_since_start(k);
-    if ticks == 0 {
-        return answer::refused(24, k);
-    }
-    let p = thousandfold(k.charges[i], ticks);
-    answer::accepted(Value::Load(p.share, p.remainder), k)
 }

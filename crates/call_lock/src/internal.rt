@@ -4,41 +4,35 @@ ghost use Rattle.kernel.specs.Kernel.{slot, current, current_task_id, slot_of, w
 ghost use Rattle.kernel.specs.Mutex.{lock_taken};
 ghost use Rattle.kernel.specs.Calls.{lock, step};
 
-use crate::{lock_got, lock_number, locked};
-use kernel::control::OptionTaskId;
+use crate::{check_lock, lock_got, locked};
+use kernel::control::TaskId;
 use kernel::mutex::Mutex;
 use kernel::scheduler::{Answer, Kernel, Value};
 use leaf_table::internal::{answer, current_id};
 
 // Current's now.
-pub fn acquired(k: Kernel, m: usize, handoff_to: OptionTaskId) -> Kernel
+pub fn acquired(k: Kernel, m: usize, handoff_to: Option<TaskId>) -> Kernel
     requires { (current k < 16) × (m < 4) × (slot_of k (current_task_id k) < 16 → (slot k (slot_of k (current_task_id k))).owned_mutex_count ≤ 4) }
     ensures { result ≡ lock_taken handoff_to m k }
 {
-    let id = current_id(k);
-    let x = k.mutexes[m];
-    let owner = OptionTaskId::Some(id);
-    let waiters = x.waiters;
-    let up = leaf_table::internal::owned_up(k, id);
-    let mut next = up;
+    let id = current_id(&k);
+    let mut next = leaf_table::internal::owned_up(k, id);
     next.mutexes[m] = Mutex {
         locked: true,
-        owner,
+        owner: Some(id),
         handoff_to,
-        waiters,
+        waiters: k.mutexes[m].waiters,
     };
     next
 }
 
+#[tactic(auto, using(kernel::proofs::Step::step_accepted), unfolding(kernel::specs::Calls::value))]
 pub fn lock(k: Kernel, known: bool, m: usize) -> Answer
     requires { (not known || whole k) ≡ true }
     ensures { result ≡ step k (lock m) }
 {
-    let is_whole = leaf_whole::internal::is_whole(k, known);
-    let number = lock_number(k, is_whole, m);
-    if number != 0 {
-        return answer::refused(number, k);
+    if let Err(refusal) = check_lock(&k, known, m) {
+        return answer::refused(refusal, k);
     }
-    let got = lock_got(k, m);
-    answer::accepted(Value::YesNo(got), locked(k, m))
+    answer::accepted(Value::YesNo(lock_got(&k, m)), locked(k, m))
 }

@@ -3,7 +3,7 @@ ghost use Rattle.std.specs.Prelude.{◌≡◌, true, ◌||◌, not};
 ghost use Rattle.kernel.specs.Kernel.{whole};
 ghost use Rattle.kernel.specs.Calls.{release, step};
 
-use crate::{release_number, released};
+use crate::{check_release, released};
 use kernel::scheduler::{Answer, Kernel};
 use leaf_table::internal::answer;
 
@@ -11,10 +11,8 @@ pub fn release(k: Kernel, known: bool, s: usize) -> Answer
     requires { (not known || whole k) ≡ true }
     ensures { result ≡ step k (release s) }
 {
-    let is_whole = leaf_whole::internal::is_whole(k, known);
-    let number = release_number(k, is_whole, s);
-    if number != 0 {
-        return answer::refused(number, k);
+    match check_release(&k, known, s) {
+        Err(refusal) => answer::refused(refusal, k),
+        Ok(()) => released(k, s),
     }
-    released(k, s)
 }

@@ -1,30 +1,26 @@
 // Release of a semaphore: synchronization/semaphore.rs of the source.
 #![tactic(auto)]
 
-ghost use Rattle.std.specs.Prelude.{◌≡◌, ◌<◌};
+ghost use Rattle.std.specs.Prelude.{◌≡◌, true, ◌||◌, not, ◌<◌};
 ghost use Rattle.kernel.specs.Kernel.{semaphore, whole};
+ghost use Rattle.kernel.specs.Refusal.{number_of};
 ghost use Rattle.kernel.specs.Calls.{release, number, value, effect, accepted, step};
 
-use kernel::scheduler::{Answer, Kernel};
+use kernel::scheduler::{Answer, Kernel, Refusal};
 use kernel::semaphore::Semaphore;
 use leaf_table::internal::answer;
 
 pub mod internal;
 
-// 19 count 2^32 - 1.
-#[tactic(auto, using(base::proofs::Choices::taken, base::proofs::Choices::left, base::proofs::Choices::tests), unfolding(kernel::specs::Calls::number))]
-fn release_number(k: Kernel, is_whole: bool, s: usize) -> u8
-    requires { is_whole ≡ whole k }
-    ensures { result ≡ number k (release s) }
+fn check_release(k: &Kernel, known: bool, s: usize) -> Result<(), Refusal>
+    requires { (not known || whole k.now) ≡ true }
+    ensures { number_of result ≡ number k.now (release s) }
 {
-    if !is_whole {
-        return 1;
+    leaf_table::internal::check_object(k, known, s)?;
+    if k.semaphores[s].count == u32::MAX {
+        return Err(Refusal::LastPermit);
     }
-    if Kernel::OBJECTS <= s {
-        return 20;
-    }
-    let x = k.semaphores[s];
-    answer::refuse_if(x.count == u32::MAX, 19, 0)
+    Ok(())
 }
 
 fn released(mut k: Kernel, s: usize) -> Answer
@@ -32,10 +28,11 @@ fn released(mut k: Kernel, s: usize) -> Answer
     ensures { result ≡ accepted (value k (release s)) (effect k (release s)) }
 {
     let x = k.semaphores[s];
-    let count = x.count + 1;
-    let w = leaf_wake::internal::wake_one(k, x.waiters);
-    let waiters = w.waiters;
-    k.semaphores[s] = Semaphore { count, waiters };
+    let w = leaf_wake::internal::wake_one(&k, x.waiters);
+    k.semaphores[s] = Semaphore {
+        count: x.count + 1,
+        waiters: w.waiters,
+    };
     answer::woken(k, w.slot)
 }
 

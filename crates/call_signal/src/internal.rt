@@ -3,7 +3,7 @@ ghost use Rattle.std.specs.Prelude.{◌≡◌, true, ◌||◌, not};
 ghost use Rattle.kernel.specs.Calls.{signal, step};
 ghost use Rattle.kernel.specs.Kernel.{whole};
 
-use crate::{signal_number, signalled};
+use crate::signalled;
 use kernel::scheduler::{Answer, Kernel};
 use leaf_table::internal::answer;
 
@@ -11,10 +11,8 @@ pub fn signal(k: Kernel, known: bool, e: usize) -> Answer
     requires { (not known || whole k) ≡ true }
     ensures { result ≡ step k (signal e) }
 {
-    let is_whole = leaf_whole::internal::is_whole(k, known);
-    let number = signal_number(k, is_whole, e);
-    if number != 0 {
-        return answer::refused(number, k);
+    if let Err(refusal) = leaf_table::internal::check_object(&k, known, e) {
+        return answer::refused(refusal, k);
     }
     signalled(k, e)
 }

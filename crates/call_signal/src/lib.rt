@@ -11,26 +11,15 @@ use leaf_table::internal::answer;
 
 pub mod internal;
 
-// 1 not whole; 20 object above 3.
-#[tactic(auto, unfolding(kernel::specs::Calls::number))]
-fn signal_number(k: Kernel, is_whole: bool, e: usize) -> u8
-    requires { is_whole ≡ whole k }
-    ensures { result ≡ number k (signal e) }
-{
-    answer::refuse_if(!is_whole, 1, answer::refuse_if(Kernel::OBJECTS <= e, 20, 0))
-}
-
 fn signalled(mut k: Kernel, e: usize) -> Answer
     requires { e < 4 }
     ensures { result ≡ accepted (value k (signal e)) (effect k (signal e)) }
 {
     let x = k.events[e];
-    let w = leaf_wake::internal::wake_one(k, x.waiters);
-    let waiters = w.waiters;
-    let woke = w.slot < Kernel::MAX_TASKS;
+    let w = leaf_wake::internal::wake_one(&k, x.waiters);
     k.events[e] = Event {
-        signaled: !woke | x.signaled,
-        waiters,
+        signaled: w.slot.is_none() | x.signaled,
+        waiters: w.waiters,
     };
     answer::woken(k, w.slot)
 }

@@ -3,18 +3,17 @@ ghost use Rattle.std.specs.Prelude.{◌≡◌, true, ◌||◌, not};
 ghost use Rattle.kernel.specs.Calls.{start, step};
 ghost use Rattle.kernel.specs.Kernel.{whole};
 
-use crate::{start_number, started};
+use crate::{check_start, started};
 use kernel::scheduler::{Answer, Kernel};
 use leaf_table::internal::answer;
 
+#[tactic(auto, using(kernel::proofs::Step::step_accepted))]
 pub fn start(k: Kernel, known: bool) -> Answer
     requires { (not known || whole k) ≡ true }
     ensures { result ≡ step k start }
 {
-    let is_whole = leaf_whole::internal::is_whole(k, known);
-    let number = start_number(k, is_whole);
-    if number != 0 {
-        return answer::refused(number, k);
+    if let Err(refusal) = check_start(&k, known) {
+        return answer::refused(refusal, k);
     }
     started(k)
 }

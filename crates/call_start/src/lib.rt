@@ -1,23 +1,27 @@
 // Start: sched/scheduler.rs of the source.
 #![tactic(auto)]
 
-ghost use Rattle.std.specs.Prelude.{◌≡◌, ◌<◌};
+ghost use Rattle.std.specs.Prelude.{◌≡◌, true, ◌||◌, not, ◌<◌};
+ghost use Rattle.kernel.specs.Refusal.{number_of};
 ghost use Rattle.kernel.specs.Calls.{start, number, value, effect, accepted, step};
 ghost use Rattle.kernel.specs.Kernel.{current, whole};
 ghost use Rattle.kernel.specs.Scheduler.{next_task};
 
 use kernel::control::{SlotIndex, TaskState};
-use kernel::scheduler::{Answer, Kernel, Value};
+use kernel::scheduler::{Answer, Kernel, Refusal, Value};
 use leaf_table::internal::answer;
 
 pub mod internal;
 
-// 1 not whole; 3 already started.
-fn start_number(k: Kernel, is_whole: bool) -> u8
-    requires { is_whole ≡ whole k }
-    ensures { result ≡ number k start }
+fn check_start(k: &Kernel, known: bool) -> Result<(), Refusal>
+    requires { (not known || whole k.now) ≡ true }
+    ensures { number_of result ≡ number k.now start }
 {
-    answer::refuse_if(!is_whole, 1, answer::refuse_if(k.started, 3, 0))
+    leaf_whole::internal::check(k, known)?;
+    if k.started {
+        return Err(Refusal::AlreadyStarted);
+    }
+    Ok(())
 }
 
 // The slot that is picked. Where no mutex has a queue each rank is the own number, and the pick by number is the pick. It stands in start and in
@@ -32,18 +36,17 @@ fn picked(k: Kernel) -> SlotIndex
     pick::internal::next_task(k)
 }
 
+#[tactic(auto, unfolding(kernel::specs::Calls::value, kernel::specs::Calls::effect, kernel::specs::Scheduler::start))]
 fn started(mut k: Kernel) -> Answer
     requires { current k < 16 }
     ensures { result ≡ accepted (value k start) (effect k start) }
 {
     let slot = picked(k);
     let i = slot.0;
-    let t = k.tasks[i];
-    let next = t.entered(TaskState::Running);
     k.started = true;
-    k.tasks[i] = next;
+    k.tasks[i] = k.tasks[i].entered(TaskState::Running);
     k.current = slot;
-    answer::accepted(Value::Turn(slot, t.sp), k)
+    answer::accepted(Value::Turn(slot, k.tasks[i].sp), k)
 }
 
 pub fn start(k: Kernel) -> Answer

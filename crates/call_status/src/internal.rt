@@ -5,7 +5,7 @@ ghost use Rattle.std.specs.Prelude.{◌≡◌, true, ◌||◌, not};
 ghost use Rattle.kernel.specs.Kernel.{whole};
 ghost use Rattle.kernel.specs.Calls.{status, block, sleep, step};
 
-use crate::{put_to_sleep, started_number, state_of, status_number};
+use crate::{check_status, put_to_sleep};
 use kernel::control::TaskState;
 use kernel::scheduler::{Answer, Kernel, Value};
 use leaf_table::internal::answer;
@@ -14,25 +14,20 @@ pub fn set_current_task_status(k: Kernel, known: bool, state: u8) -> Answer
     requires { (not known || whole k) ≡ true }
     ensures { result ≡ step k (status state) }
 {
-    let is_whole = leaf_whole::internal::is_whole(k, known);
-    let number = status_number(k, is_whole, state);
-    if number != 0 {
-        return answer::refused(number, k);
+    match check_status(&k, known, state) {
+        Err(refusal) => answer::refused(refusal, k),
+        Ok(state) => {
+            answer::accepted(Value::Nothing, leaf_table::internal::set_status(k, state))
+        },
     }
-    answer::accepted(
-        Value::Nothing,
-        leaf_table::internal::set_status(k, state_of(state)),
-    )
 }
 
 pub fn block_current_task(k: Kernel, known: bool) -> Answer
     requires { (not known || whole k) ≡ true }
     ensures { result ≡ step k block }
 {
-    let is_whole = leaf_whole::internal::is_whole(k, known);
-    let number = started_number(k, is_whole);
-    if number != 0 {
-        return answer::refused(number, k);
+    if let Err(refusal) = leaf_table::internal::check_started(&k, known) {
+        return answer::refused(refusal, k);
     }
     answer::accepted(
         Value::Nothing,
@@ -44,10 +39,8 @@ pub fn current_task_sleep_ticks(k: Kernel, known: bool, ticks: u64) -> Answer
     requires { (not known || whole k) ≡ true }
     ensures { result ≡ step k (sleep ticks) }
 {
-    let is_whole = leaf_whole::internal::is_whole(k, known);
-    let number = started_number(k, is_whole);
-    if number != 0 {
-        return answer::refused(number, k);
+    if let Err(refusal) = leaf_table::internal::check_started(&k, known) {
+        return answer::refused(refusal, k);
     }
     answer::accepted(Value::Nothing, put_to_sleep(k, ticks))
 }

@@ -1,76 +1,50 @@
 // Calls on current: its id, and its state. sched/scheduler.rs of the source.
 #![tactic(auto)]
 
-ghost use Rattle.std.specs.Prelude.{◌≡◌, not, ◌<◌};
-ghost use Rattle.base.specs.Choice.{if◌then◌otherwise◌};
+ghost use Rattle.std.specs.Prelude.{◌≡◌, true, ◌||◌, not, ◌<◌, eqb, leb, IfSome, is_some, IfOk};
 ghost use Rattle.kernel.specs.Control.{state_of};
 ghost use Rattle.kernel.specs.Kernel.{current, whole};
 ghost use Rattle.kernel.specs.Scheduler.{sleep as slept};
+ghost use Rattle.kernel.specs.Refusal.{number_of};
 ghost use Rattle.kernel.specs.Calls.{current_id, status, block, sleep, number, step};
 
-use kernel::control::TaskState;
-use kernel::internal::saturating_add;
-use kernel::scheduler::{Answer, Kernel, Value};
+use kernel::control::{TaskControl, TaskState};
+use kernel::scheduler::{Answer, Kernel, Refusal, Value};
 use leaf_table::internal::answer;
 
 pub mod internal;
-
-// 1 not whole; 2 not started.
-fn started_number(k: Kernel, is_whole: bool) -> u8
-    requires { is_whole ≡ whole k }
-    ensures { result ≡ (if not (whole k) then 1 otherwise if not k.started then 2 otherwise 0) }
-{
-    answer::refuse_if(!is_whole, 1, answer::refuse_if(!k.started, 2, 0))
-}
 
 #[tactic(auto, using(kernel::proofs::Step::step_refused, kernel::proofs::Step::step_accepted), unfolding(kernel::specs::Calls::number, kernel::specs::Calls::value, kernel::specs::Calls::effect))]
 pub fn current_task_id(k: Kernel) -> Answer
     ensures { result ≡ step k current_id }
 {
-    let is_whole = leaf_whole::internal::is_whole(k, false);
-    let number = started_number(k, is_whole);
-    if number != 0 {
-        return answer::refused(number, k);
+    if let Err(refusal) = leaf_table::internal::check_started(&k, false) {
+        return answer::refused(refusal, k);
     }
-    let t = leaf_table::internal::current_task(k);
-    let id = t.id;
-    answer::accepted(Value::Id(id), k)
+    answer::accepted(Value::Id(leaf_table::internal::current_id(&k)), k)
 }
 
-#[tactic(auto, using(base::proofs::Choices::taken, base::proofs::Choices::left, base::proofs::Choices::tests), unfolding(kernel::specs::Control::state_of))]
-fn state_of(n: u8) -> TaskState
-    ensures { result ≡ state_of n }
+// The state of that number, if status may give it: neither Running nor Terminated.
+fn state_to_set(n: u8) -> Option<TaskState>
+    ensures fit { is_some result ≡ not (eqb n 1 || leb 5 n) }
+    ensures state { IfSome result (λ s. s ≡ state_of n) }
 {
-    if n == 0 {
-        return TaskState::Ready;
+    match n {
+        0 => Some(TaskState::Ready),
+        2 => Some(TaskState::Blocked),
+        3 => Some(TaskState::Sleeping),
+        4 => Some(TaskState::Suspended),
+        _ => None,
     }
-    if n == 1 {
-        return TaskState::Running;
-    }
-    if n == 2 {
-        return TaskState::Blocked;
-    }
-    if n == 3 {
-        return TaskState::Sleeping;
-    }
-    if n == 4 {
-        return TaskState::Suspended;
-    }
-    TaskState::Terminated
 }
 
-// 1 not whole; 2 not started; 7 Running, Terminated or above 5.
-#[tactic(auto, unfolding(kernel::specs::Calls::number))]
-fn status_number(k: Kernel, is_whole: bool, state: u8) -> u8
-    requires { is_whole ≡ whole k }
-    ensures { result ≡ number k (status state) }
+fn check_status(k: &Kernel, known: bool, state: u8) -> Result<TaskState, Refusal>
+    requires { (not known || whole k.now) ≡ true }
+    ensures number { number_of result ≡ number k.now (status state) }
+    ensures state { IfOk result (λ s. s ≡ state_of state) }
 {
-    let kept = (state == 1) | (5 <= state);
-    answer::refuse_if(
-        !is_whole,
-        1,
-        answer::refuse_if(!k.started, 2, answer::refuse_if(kept, 7, 0)),
-    )
+    leaf_table::internal::check_started(k, known)?;
+    state_to_set(state).ok_or(Refusal::UnfitOperand)
 }
 
 pub fn set_current_task_status(k: Kernel, state: u8) -> Answer
@@ -90,10 +64,10 @@ fn put_to_sleep(mut k: Kernel, ticks: u64) -> Kernel
     ensures { result ≡ slept ticks k }
 {
     let i = k.current.0;
-    let t = k.tasks[i];
-    let mut next = t.entered(TaskState::Sleeping);
-    next.wake_tick = saturating_add(k.tick_count, ticks);
-    k.tasks[i] = next;
+    k.tasks[i] = TaskControl {
+        wake_tick: k.tick_count.saturating_add(ticks),
+        ..k.tasks[i].entered(TaskState::Sleeping)
+    };
     k
 }
 

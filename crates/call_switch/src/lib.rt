@@ -1,25 +1,34 @@
 // Switch: sched/scheduler.rs of the source.
 #![tactic(auto)]
 
-ghost use Rattle.std.specs.Prelude.{◌≡◌, not, ◌+◌, ◌/◌, ◌<◌, ◌≤◌, length};
+ghost use Rattle.std.specs.Prelude.{◌≡◌, true, ◌||◌, not, ◌+◌, ◌/◌, ◌<◌, ◌≤◌, length, eqb};
+ghost use Rattle.std.specs.List.{list_all};
 ghost use Rattle.base.specs.Choice.{if◌then◌otherwise◌};
-ghost use Rattle.kernel.specs.Control.{sp_in_range, stack_guard_ok};
+ghost use Rattle.kernel.specs.Control.{paint, sp_in_range, stack_guard_ok};
 ghost use Rattle.kernel.specs.Kernel.{current, whole};
 ghost use Rattle.kernel.specs.Scheduler;
 ghost use Rattle.kernel.specs.Scheduler.{context_saved, save_context, reloaded, next_task};
+ghost use Rattle.kernel.specs.Refusal.{number_of};
 ghost use Rattle.kernel.specs.Calls.{switch, number, accepted, picked, step};
 
 use kernel::control::{SlotIndex, StackRegion, TaskControl, TaskState};
-use kernel::scheduler::{Answer, Kernel, Value};
+use kernel::scheduler::{Answer, Kernel, Refusal, Value};
 use leaf_table::internal::answer;
 
 pub mod internal;
 
+#[tactic(auto, unfolding(kernel::specs::Control::sp_in_range))]
 fn sp_in_range(region: StackRegion, sp: u32) -> bool
     ensures { result ≡ sp_in_range region sp }
 {
     let end = (region.start as u64) + (region.size as u64);
     (region.start <= sp) & ((sp as u64) < end)
+}
+
+fn all_painted(words: &[u32]) -> bool
+    ensures { result ≡ list_all (λ w. eqb w paint) words.now }
+{
+    words.iter().all(|w| *w == TaskControl::STACK_MAGIC)
 }
 
 // Whether the region's first four words are all painted.
@@ -28,43 +37,39 @@ fn stack_guard_ok(region: StackRegion, arena: &[u32]) -> bool
     ensures { result ≡ stack_guard_ok region arena.now }
 {
     let start = (region.start / StackRegion::WORD_SIZE) as usize;
-    let mut ok = true;
-    for i in 0..TaskControl::STACK_GUARD_WORDS {
-        ok = ok & (arena[start + i] == TaskControl::STACK_MAGIC);
-    }
-    ok
+    all_painted(&arena[start..start + TaskControl::STACK_GUARD_WORDS])
 }
 
-// 16 sp outside the region; 17 the guard is not intact.
-fn switch_late_number(stack: StackRegion, sp: u32, arena: &[u32]) -> u8
+#[tactic(auto, using(base::proofs::Choices::taken, base::proofs::Choices::left, base::proofs::Choices::tests))]
+fn check_stack(stack: StackRegion, sp: u32, arena: &[u32]) -> Result<(), Refusal>
     requires { stack.start / 4 + 4 ≤ length arena.now }
-    ensures { result ≡ (if not (sp_in_range stack sp) then 16 otherwise if not (stack_guard_ok stack arena.now) then 17 otherwise 0) }
+    ensures { number_of result ≡ (if not (sp_in_range stack sp) then 16 otherwise if not (stack_guard_ok stack arena.now) then 17 otherwise 0) }
 {
-    let inside = sp_in_range(stack, sp);
-    let intact = stack_guard_ok(stack, arena);
-    answer::refuse_if(!inside, 16, answer::refuse_if(!intact, 17, 0))
+    if !sp_in_range(stack, sp) {
+        return Err(Refusal::SpOutside);
+    }
+    if !stack_guard_ok(stack, arena) {
+        return Err(Refusal::GuardNotIntact);
+    }
+    Ok(())
 }
 
-fn switch_number(k: Kernel, is_whole: bool, sp: u32, arena: &[u32]) -> u8
-    requires { is_whole ≡ whole k }
-    ensures { result ≡ number k (switch arena.now sp) }
+fn check_switch(k: &Kernel, known: bool, sp: u32, arena: &[u32]) -> Result<(), Refusal>
+    requires { (not known || whole k.now) ≡ true }
+    ensures { number_of result ≡ number k.now (switch arena.now sp) }
 {
-    if !is_whole {
-        return 1;
-    }
+    leaf_whole::internal::check(k, known)?;
     if arena.len() != k.arena_words as usize {
-        return 1;
+        return Err(Refusal::NotWhole);
     }
     if !k.started {
-        return 2;
+        return Err(Refusal::NotStarted);
     }
-    let c = k.current.0;
-    let t = k.tasks[c];
-    let stack = t.stack;
-    switch_late_number(stack, sp, arena)
+    check_stack(k.tasks[k.current.0].stack, sp, arena)
 }
 
 // The task that leaves the processor.
+#[tactic(auto, using(base::proofs::Choices::taken, base::proofs::Choices::left, base::proofs::Choices::tests), unfolding(kernel::specs::Scheduler::context_saved))]
 fn context_saved(mut t: TaskControl, sp: u32) -> TaskControl
     ensures { result ≡ context_saved sp t }
 {
@@ -75,12 +80,12 @@ fn context_saved(mut t: TaskControl, sp: u32) -> TaskControl
     t
 }
 
+#[tactic(auto, using(base::proofs::Choices::taken, base::proofs::Choices::left, base::proofs::Choices::tests), unfolding(kernel::specs::Scheduler::reloaded))]
 fn reloaded(mut t: TaskControl) -> TaskControl
     ensures { result ≡ reloaded t }
 {
     if t.remaining_slice == 0 {
         t.remaining_slice = t.time_slice;
-        return t;
     }
     t
 }
@@ -102,13 +107,11 @@ fn switched(mut k: Kernel, sp: u32) -> Answer
     ensures { result ≡ accepted (picked (save_context sp k)) (Scheduler.switch sp k) }
 {
     let c = k.current.0;
-    let saved = context_saved(k.tasks[c], sp);
-    k.tasks[c] = saved;
+    k.tasks[c] = context_saved(k.tasks[c], sp);
     let slot = picked(k);
     let i = slot.0;
     let t = k.tasks[i];
-    let next = reloaded(t).entered(TaskState::Running);
-    k.tasks[i] = next;
+    k.tasks[i] = reloaded(t).entered(TaskState::Running);
     k.current = slot;
     answer::accepted(Value::Turn(slot, t.sp), k)
 }

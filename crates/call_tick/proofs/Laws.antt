@@ -1,59 +1,63 @@
 -- The kernel in the loop of a tick: the first slots are walked.
-use Prim.Native.Nat.{ℕ, ◌+◌, ◌≤◌, ◌<◌, ◌-◌}
-use mathlib.Core.Path.{◌≡◌, refl, ap, ◌∙◌}
-use mathlib.Core.List.{List}
+use Prim.Native.Nat.{ℕ, ◌+◌, ◌≤◌, ◌<◌, ◌-◌, ◌^◌}
+use mathlib.Core.Path.{◌≡◌, refl, ap, sym, ◌∙◌}
+use mathlib.Core.List.{List, [], ◌∷◌}
 use mathlib.Core.Bool.{Bool, true, false, ◌&&◌, ◌||◌}
 use native.Mathlib.Omega.{arith}
 use native.Mathlib.Numerals.{add-one}
 use lib.Dec.{eqb, leb}
+use native.Mathlib.Decide.{dec_lt}
 use lib.ListN.{get_or, set}
 use lib.Seq.{set-get_or}
-use borrow.Author.Tests.{ltb-true}
+use borrow.Author.Tests.{ltb-true, eq-eqb, ne_eqb, le-leb, lt-leb}
 use Rattle.base.specs.Choice.{if◌then◌otherwise◌}
 use Rattle.base.specs.Below.{any_below}
+use Rattle.base.proofs.Choices.{taken}
 use Rattle.base.proofs.Loops.{Upto, any_start, upto_any, any_done, sum_at}
 use Rattle.kernel.specs.declared.control.LimitObject.{LimitObject}
 use Rattle.kernel.specs.declared.control.LimitObject.TheVariants.{NoLimit, AtSemaphore, AtEvent}
 use Rattle.kernel.specs.declared.control.TaskId.{TaskId}
 use Rattle.kernel.specs.declared.control.TaskControl.{TaskControl}
 use Rattle.kernel.specs.declared.control.TaskState.TheVariants.{Ready, Running, Sleeping}
-use Rattle.kernel.specs.declared.semaphore.Semaphore.{Semaphore}
-use Rattle.kernel.specs.declared.event.Event.{Event}
+use Rattle.kernel.specs.declared.wait_queue.WaitQueue.{WaitQueue}
 use Rattle.kernel.specs.declared.scheduler.Kernel.{Kernel}
 use Rattle.kernel.specs.declared.scheduler.Value.TheVariants.{YesNo}
+use Rattle.kernel.specs.declared.scheduler.Answer.{Answer}
 use Rattle.kernel.specs.WaitQueue.{removed}
 use Rattle.kernel.specs.Control.{in_state, holds_task, has_limit, object_fits, entered, expired, blank_slot}
 use Rattle.kernel.specs.Kernel.{slot, charge, at, current, current_task, semaphore, event, with_semaphore, with_event, whole}
 use Rattle.kernel.specs.Update.{with_tasks, with_charges, with_tick_count}
 use Rattle.kernel.specs.Scheduler
 use Rattle.kernel.specs.Scheduler.{is_due, is_limit_due, woken, unqueued, visited, walked, spent, clocked, advanced, sliced, wants, wants_switch}
-use Rattle.kernel.specs.Calls.{tick, value, effect, accepted}
+use Rattle.kernel.specs.Calls.{tick, number, value, effect, first_of, not_whole, checks, refused, accepted, step}
+use Rattle.kernel.proofs.Checks.{passed_early}
+use Rattle.kernel.proofs.Step.{number_refused}
 use Rattle.kernel.proofs.Whole.{is_whole}
 use Rattle.kernel.proofs.Unlimited.{due_occupied}
 use Rattle.kernel.proofs.Walk.{Beside, walked_beside, unqueued_tasks, walked_after}
 
--- a test that is made first
-first_fails : (a b c : Bool) → b ≡ false → false ≡ (a && b && c)
-first_fails true b c e = rw e
-first_fails false b c e = refl
+-- a test b that is made first, which came out as v
+first_fails : (a b c v : Bool) → v ≡ b → v ≡ false → v ≡ (a && b && c)
+first_fails true b c v e f = rw (← e, f)
+first_fails false b c v e f = f
 
-first_holds : (a b c : Bool) → b ≡ true → (a && c) ≡ (a && b && c)
-first_holds true b c e = rw e
+first_holds : (a b c : Bool) → true ≡ b → (a && c) ≡ (a && b && c)
+first_holds true b c e = rw (← e)
 first_holds false b c e = refl
 
-pub awake : (now : ℕ) (t : TaskControl) → in_state Sleeping t ≡ false → false ≡ is_due now t
+pub awake : (now : ℕ) (t : TaskControl) (v : Bool) → v ≡ in_state Sleeping t → v ≡ false → v ≡ is_due now t
 unfolding is_due holds_task
-awake now t = first_fails t.occupied _ (leb t.wake_tick now)
+awake now t v = first_fails t.occupied _ (leb t.wake_tick now) v
 
-pub asleep : (now : ℕ) (t : TaskControl) → in_state Sleeping t ≡ true → (t.occupied && leb t.wake_tick now) ≡ is_due now t
+pub asleep : (now : ℕ) (t : TaskControl) → true ≡ in_state Sleeping t → (t.occupied && leb t.wake_tick now) ≡ is_due now t
 unfolding is_due holds_task
 asleep now t = first_holds t.occupied _ (leb t.wake_tick now)
 
-pub without_limit : (now : ℕ) (t : TaskControl) → has_limit t ≡ false → false ≡ is_limit_due now t
+pub without_limit : (now : ℕ) (t : TaskControl) (v : Bool) → v ≡ has_limit t → v ≡ false → v ≡ is_limit_due now t
 unfolding is_limit_due
-without_limit now t = first_fails t.occupied _ (leb t.limit_tick now)
+without_limit now t v = first_fails t.occupied _ (leb t.limit_tick now) v
 
-pub with_limit_lem : (now : ℕ) (t : TaskControl) → has_limit t ≡ true → (t.occupied && leb t.limit_tick now) ≡ is_limit_due now t
+pub with_limit_lem : (now : ℕ) (t : TaskControl) → true ≡ has_limit t → (t.occupied && leb t.limit_tick now) ≡ is_limit_due now t
 unfolding is_limit_due
 with_limit_lem now t = first_holds t.occupied _ (leb t.limit_tick now)
 
@@ -83,24 +87,30 @@ pub walking_charge : {now : ℕ} {k₀ k : Kernel} {woke : Bool} {i : ℕ} → W
 walking_charge {k₀ = k₀} w h = let is = is_whole k₀ h in omega (arith, ap (λ (x : Kernel). charge x (current x)) (walking_beside w).form, is.charges, sum_at (charge k₀) 16 (current k₀) is.current_slot)
 
 -- the object of a limit that is due
-pub walking_fits : {now : ℕ} {k₀ k : Kernel} {woke : Bool} {i : ℕ} → Walking now k₀ k woke i → whole k₀ ≡ true → i < 16 → is_limit_due now (slot k i) ≡ true → object_fits (slot k i).limit_object ≡ true
+walking_fits : {now : ℕ} {k₀ k : Kernel} {woke : Bool} {i : ℕ} → Walking now k₀ k woke i → whole k₀ ≡ true → i < 16 → is_limit_due now (slot k i) ≡ true → object_fits (slot k i).limit_object ≡ true
 walking_fits {now} {k₀} {k} {woke} {i} w h l p = let o = due_occupied now (slot k i) p in rw (walking_slot w) ((is_whole k₀ h).limits i l (rw (← walking_slot w) o.0) (rw (← walking_slot w) o.1)).1
 
-pub semaphore_fits : (o : LimitObject) (s : ℕ) → o ≡ AtSemaphore s → object_fits o ≡ true → s < 4
+semaphore_fits : (o : LimitObject) (s : ℕ) → o ≡ AtSemaphore s → object_fits o ≡ true → s < 4
 semaphore_fits o s e f = ltb-true _ _ (rw e at f)
 
-pub event_fits : (o : LimitObject) (v : ℕ) → o ≡ AtEvent v → object_fits o ≡ true → v < 4
+event_fits : (o : LimitObject) (v : ℕ) → o ≡ AtEvent v → object_fits o ≡ true → v < 4
 event_fits o v e f = ltb-true _ _ (rw e at f)
+
+pub walking_semaphore : {now : ℕ} {k₀ k : Kernel} {woke : Bool} {i s : ℕ} → Walking now k₀ k woke i → whole k₀ ≡ true → i < 16 → true ≡ is_limit_due now (slot k i) → (slot k i).limit_object ≡ AtSemaphore s → s < 4
+walking_semaphore w h l p e = semaphore_fits _ _ e (walking_fits w h l (sym p))
+
+pub walking_event : {now : ℕ} {k₀ k : Kernel} {woke : Bool} {i v : ℕ} → Walking now k₀ k woke i → whole k₀ ≡ true → i < 16 → true ≡ is_limit_due now (slot k i) → (slot k i).limit_object ≡ AtEvent v → v < 4
+walking_event w h l p e = event_fits _ _ e (walking_fits w h l (sym p))
 
 -- the three ways of the match
 pub at_none : (o : LimitObject) (a : TaskId) (k x : Kernel) → o ≡ NoLimit → x ≡ k → x ≡ unqueued o a k
 at_none o a k x e f = rw e f
 
-pub at_semaphore : (o : LimitObject) (a : TaskId) (k x : Kernel) (s : ℕ) (r : Semaphore) → o ≡ AtSemaphore s → r ≡ record { count = (semaphore k s).count; waiters = removed (semaphore k s).waiters a } → x ≡ with_semaphore s r k → x ≡ unqueued o a k
-at_semaphore o a k x s r e f g = rw (e, ← f) g
+pub at_semaphore : (o : LimitObject) (a : TaskId) (k x : Kernel) (s n : ℕ) (q : WaitQueue) → o ≡ AtSemaphore s → n ≡ s → q ≡ removed (semaphore k n).waiters a → x ≡ with_semaphore n (record { count = (semaphore k n).count; waiters = q }) k → x ≡ unqueued o a k
+at_semaphore o a k x s n q e h f g = rw (e, ← h, ← f) g
 
-pub at_event : (o : LimitObject) (a : TaskId) (k x : Kernel) (v : ℕ) (r : Event) → o ≡ AtEvent v → r ≡ record { signaled = (event k v).signaled; waiters = removed (event k v).waiters a } → x ≡ with_event v r k → x ≡ unqueued o a k
-at_event o a k x v r e f g = rw (e, ← f) g
+pub at_event : (o : LimitObject) (a : TaskId) (k x : Kernel) (v n : ℕ) (q : WaitQueue) → o ≡ AtEvent v → n ≡ v → q ≡ removed (event k n).waiters a → x ≡ with_event n (record { signaled = (event k n).signaled; waiters = q }) k → x ≡ unqueued o a k
+at_event o a k x v n q e h f g = rw (e, ← h, ← f) g
 
 walking_next : {now : ℕ} {k₀ k k' : Kernel} {woke : Bool} {i : ℕ} (b : Bool) → Walking now k₀ k woke i → i < 16 → k' ≡ visited now i k → b ≡ (woke || wakes now (slot k i)) → Walking now k₀ k' b (i + 1)
 unfolding walked
@@ -172,7 +182,21 @@ module _ (k kʷ : Kernel) (woke : Bool) (is : kʷ ≡ walked (k.tick_count + 1) 
   unfolding value effect Scheduler.tick wants_switch wants sliced if◌then◌otherwise◌
   not_running on rest = rw (← on_is on, on, rest)
 
+  -- what is left of the slice is its last tick
+  last : (n : ℕ) → leb n 1 ≡ eqb (n - 1) 0
+  last n =
+      elim (dec_lt 1 n) [
+        | yes h ↦ rw (lt-leb n 1 h, ne_eqb (n - 1) 0 (λ z. omega (arith, z, h))) refl
+        | no h ↦ rw (le-leb n 1 (omega (arith, h)), eq-eqb (n - 1) 0 (omega (arith, h))) refl
+      ]
+
   pub running : kʷ.started ≡ true → in_state Running (current_task (charged ticking)) ≡ true
-      → accepted (YesNo (woke || eqb ((current_task (charged ticking)).remaining_slice - 1) 0)) (at (current (charged ticking)) spent (charged ticking)) ≡ accepted (value k tick) (effect k tick)
+      → accepted (YesNo (woke || leb (current_task (charged ticking)).remaining_slice 1)) (at (current (charged ticking)) spent (charged ticking)) ≡ accepted (value k tick) (effect k tick)
   unfolding value effect Scheduler.tick wants_switch wants sliced if◌then◌otherwise◌
-  running on runs = rw (← on_is on, on, runs, due)
+  running on runs = rw (last (current_task (charged ticking)).remaining_slice, ← on_is on, on, runs, due)
+
+-- ---- a kernel that is whole, at the last tick
+
+pub at_last_tick : (k : Kernel) (a : Answer) → 0 ≡ first_of (not_whole k ∷ []) → k.tick_count ≡ 2 ^ 64 - 1 → a ≡ refused 18 k → a ≡ step k tick
+unfolding number
+at_last_tick k a w e = number_refused k tick 18 a (passed_early (not_whole k ∷ []) (checks k tick) 18 refl w (taken _ _ _ _ (eq-eqb _ _ e) refl)) (λ z. omega (arith, z))

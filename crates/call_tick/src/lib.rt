@@ -2,104 +2,43 @@
 #![tactic(auto)]
 
 ghost use Rattle.std.specs.Prelude.{◌≡◌, true, ◌||◌, not, ◌-◌, ◌^◌, ◌<◌};
-ghost use Rattle.kernel.specs.WaitQueue.{removed};
 ghost use Rattle.kernel.specs.Kernel.{whole};
 ghost use Rattle.kernel.specs.Scheduler.{is_due, is_limit_due, spent};
 ghost use Rattle.kernel.specs.Calls.{tick, number, value, effect, accepted, step};
 
-use kernel::control::{LimitObject, TaskControl, TaskId, TaskState};
-use kernel::event::Event;
-use kernel::internal::one_less;
+use kernel::control::{LimitObject, TaskControl, TaskState};
 use kernel::scheduler::{Answer, Kernel, Value};
-use kernel::semaphore::Semaphore;
 use leaf_table::internal::answer;
 
 pub mod internal;
 
-// In a function of its own, so that a kernel that is known to be whole is not copied for the look.
-fn looked_at(k: Kernel) -> bool
-    ensures { result ≡ whole k }
-{
-    leaf_whole::internal::is_whole(k, false)
-}
-
-// As `leaf_whole::internal::is_whole`; a tick is the call made most.
-fn is_whole(k: Kernel, known: bool) -> bool
-    requires { (not known || whole k) ≡ true }
-    ensures { result ≡ whole k }
-{
-    if known {
-        return true;
-    }
-    looked_at(k)
-}
-
-// 1 not whole; 18 tick_count 2^64 - 1.
-fn tick_number(k: Kernel, is_whole: bool) -> u8
-    requires { is_whole ≡ whole k }
-    ensures { result ≡ number k tick }
-{
-    answer::refuse_if(
-        !is_whole,
-        1,
-        answer::refuse_if(k.tick_count == u64::MAX, 18, 0),
-    )
-}
-
+#[tactic(auto, using(crate::proofs::Laws::awake, crate::proofs::Laws::asleep))]
 fn is_due(t: TaskControl, now: u64) -> bool
     ensures { result ≡ is_due now t }
 {
-    if !t.is_sleeping() {
-        return false;
-    }
-    t.occupied & (t.wake_tick <= now)
+    t.is_sleeping() && (t.occupied & (t.wake_tick <= now))
 }
 
+#[tactic(auto, using(crate::proofs::Laws::without_limit, crate::proofs::Laws::with_limit_lem))]
 fn is_limit_due(t: TaskControl, now: u64) -> bool
     ensures { result ≡ is_limit_due now t }
 {
-    let object = t.limit_object;
-    if !object.is_limit() {
-        return false;
-    }
-    t.occupied & (t.limit_tick <= now)
-}
-
-fn semaphore_without(x: Semaphore, id: TaskId) -> Semaphore
-    ensures { result ≡ record { count = x.count; waiters = removed x.waiters id } }
-{
-    let q = x.waiters;
-    let waiters = leaf_queue::removed(q, id);
-    Semaphore {
-        count: x.count,
-        waiters,
-    }
-}
-
-fn event_without(x: Event, id: TaskId) -> Event
-    ensures { result ≡ record { signaled = x.signaled; waiters = removed x.waiters id } }
-{
-    let q = x.waiters;
-    let waiters = leaf_queue::removed(q, id);
-    Event {
-        signaled: x.signaled,
-        waiters,
-    }
+    t.limit_object.is_limit() && (t.occupied & (t.limit_tick <= now))
 }
 
 // One tick off the slice; at 0 it is full again.
+#[tactic(auto, using(base::proofs::Choices::taken, base::proofs::Choices::left, base::proofs::Choices::tests))]
 fn spent(mut t: TaskControl) -> TaskControl
     ensures { result ≡ spent t }
 {
-    let left = one_less(t.remaining_slice);
-    if left == 0 {
+    t.remaining_slice = t.remaining_slice.saturating_sub(1);
+    if t.remaining_slice == 0 {
         t.remaining_slice = t.time_slice;
-        return t;
     }
-    t.remaining_slice = left;
     t
 }
 
+#[tactic(auto, using(crate::proofs::Laws::walking_semaphore, crate::proofs::Laws::walking_event, crate::proofs::Laws::walking_charge))]
 fn ticked(mut k: Kernel) -> Answer
     requires { (whole k ≡ true) × (k.tick_count < 2 ^ 64 - 1) }
     ensures { result ≡ accepted (value k tick) (effect k tick) }
@@ -110,25 +49,21 @@ fn ticked(mut k: Kernel) -> Answer
         let t = k.tasks[i];
         if is_limit_due(t, now) {
             woke = true;
-            let id = t.id;
-            let object = t.limit_object;
-            match object {
-                LimitObject::NoLimit => {}
+            match t.limit_object {
+                LimitObject::NoLimit => {},
                 LimitObject::AtSemaphore(s) => {
-                    let next = semaphore_without(k.semaphores[s as usize], id);
-                    k.semaphores[s as usize] = next;
-                }
+                    let s = usize::from(s);
+                    k.semaphores[s].waiters = leaf_queue::removed(k.semaphores[s].waiters, t.id);
+                },
                 LimitObject::AtEvent(e) => {
-                    let next = event_without(k.events[e as usize], id);
-                    k.events[e as usize] = next;
-                }
+                    let e = usize::from(e);
+                    k.events[e].waiters = leaf_queue::removed(k.events[e].waiters, t.id);
+                },
             }
-            let next = t.expired();
-            k.tasks[i] = next;
+            k.tasks[i] = t.expired();
         } else if is_due(t, now) {
             woke = true;
-            let next = t.entered(TaskState::Ready);
-            k.tasks[i] = next;
+            k.tasks[i] = t.entered(TaskState::Ready);
         }
     }
     k.tick_count = now;
@@ -136,14 +71,13 @@ fn ticked(mut k: Kernel) -> Answer
         return answer::accepted(Value::YesNo(false), k);
     }
     let i = k.current.0;
-    k.charges[i] = k.charges[i] + 1;
+    k.charges[i] += 1;
     let t = k.tasks[i];
     if !t.is_running() {
         return answer::accepted(Value::YesNo(true), k);
     }
-    let wanted = woke | (one_less(t.remaining_slice) == 0);
-    let next = spent(t);
-    k.tasks[i] = next;
+    k.tasks[i] = spent(t);
+    let wanted = woke | (t.remaining_slice <= 1);
     answer::accepted(Value::YesNo(wanted), k)
 }
 

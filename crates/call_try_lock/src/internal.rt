@@ -7,15 +7,13 @@ use crate::tried;
 use kernel::scheduler::{Answer, Kernel, Value};
 use leaf_table::internal::answer;
 
+#[tactic(auto, using(kernel::proofs::Step::step_accepted), unfolding(kernel::specs::Calls::number, kernel::specs::Calls::value))]
 pub fn try_lock(k: Kernel, known: bool, m: usize) -> Answer
     requires { (not known || whole k) ≡ true }
     ensures { result ≡ step k (try_lock m) }
 {
-    let is_whole = leaf_whole::internal::is_whole(k, known);
-    let number = leaf_table::internal::object_number(k, is_whole, m);
-    if number != 0 {
-        return answer::refused(number, k);
+    if let Err(refusal) = leaf_table::internal::check_started_object(&k, known, m) {
+        return answer::refused(refusal, k);
     }
-    let got = !k.mutexes[m].locked;
-    answer::accepted(Value::YesNo(got), tried(k, m))
+    answer::accepted(Value::YesNo(!k.mutexes[m].locked), tried(k, m))
 }

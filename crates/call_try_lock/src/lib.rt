@@ -5,7 +5,6 @@ ghost use Rattle.std.specs.Prelude.{◌≡◌, ◌<◌, ◌≤◌};
 ghost use Rattle.kernel.specs.Kernel.{slot, current, current_task_id, slot_of};
 ghost use Rattle.kernel.specs.Calls.{try_lock, effect, step};
 
-use kernel::control::OptionTaskId;
 use kernel::scheduler::{Answer, Kernel};
 
 pub mod internal;
@@ -15,12 +14,10 @@ fn tried(k: Kernel, m: usize) -> Kernel
     requires { (current k < 16) × (m < 4) × (slot_of k (current_task_id k) < 16 → (slot k (slot_of k (current_task_id k))).owned_mutex_count ≤ 4) }
     ensures { result ≡ effect k (try_lock m) }
 {
-    let x = k.mutexes[m];
-    if x.locked {
+    if k.mutexes[m].locked {
         return k;
     }
-    let no_handoff = OptionTaskId::None;
-    call_lock::internal::acquired(k, m, no_handoff)
+    call_lock::internal::acquired(k, m, None)
 }
 
 // Refused: 1, 20 and 2.

@@ -3,20 +3,17 @@ ghost use Rattle.std.specs.Prelude.{◌≡◌, true, ◌||◌, not};
 ghost use Rattle.kernel.specs.Kernel.{whole};
 ghost use Rattle.kernel.specs.Calls.{unlock, step};
 
-use crate::{unlock_number, unlocked};
+use crate::{check_unlock, unlocked};
 use kernel::scheduler::{Answer, Kernel, Value};
 use leaf_table::internal::answer;
 
+#[tactic(auto, using(kernel::proofs::Step::step_accepted), unfolding(kernel::specs::Calls::value))]
 pub fn unlock(k: Kernel, known: bool, m: usize) -> Answer
     requires { (not known || whole k) ≡ true }
     ensures { result ≡ step k (unlock m) }
 {
-    let is_whole = leaf_whole::internal::is_whole(k, known);
-    let number = unlock_number(k, is_whole, m);
-    if number != 0 {
-        return answer::refused(number, k);
+    if let Err(refusal) = check_unlock(&k, known, m) {
+        return answer::refused(refusal, k);
     }
-    let x = k.mutexes[m];
-    let more = x.waiters.len != 0;
-    answer::accepted(Value::YesNo(more), unlocked(k, m))
+    answer::accepted(Value::YesNo(k.mutexes[m].waiters.len != 0), unlocked(k, m))
 }

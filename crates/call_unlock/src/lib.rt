@@ -1,43 +1,49 @@
 // Unlock of a mutex: synchronization/mutex.rs of the source.
 #![tactic(auto)]
 
-ghost use Rattle.std.specs.Prelude.{drop, ◌≡◌, true, ℕ, ◌<◌, ◌≤◌};
+ghost use Rattle.std.specs.Prelude.{drop, ◌≡◌, true, ◌||◌, not, ℕ, ◌<◌, ◌≤◌};
 ghost use Rattle.kernel.specs.Kernel.{slot, current, current_task_id, slot_of, mutex, whole};
 ghost use Rattle.kernel.specs.WaitQueue.{head};
-ghost use Rattle.kernel.specs.Mutex.{handed_off, lock_freed};
+ghost use Rattle.kernel.specs.Mutex.{owns_mutex, handed_off, lock_freed};
+ghost use Rattle.kernel.specs.Refusal.{number_of};
 ghost use Rattle.kernel.specs.Calls.{unlock, number, effect, step, first_of, checks};
 
-use kernel::control::OptionTaskId;
 use kernel::mutex::Mutex;
-use kernel::scheduler::{Answer, Kernel};
-use leaf_table::internal::{answer, current_id};
+use kernel::scheduler::{Answer, Kernel, Refusal};
+use leaf_table::internal::current_id;
 
 pub mod internal;
 
-// 14 not owner; 15 owned count 0.
-fn unlock_late_number(k: Kernel, m: usize) -> u8
-    requires { (current k < 16) × (m < 4) × (slot_of k (current_task_id k) < 16) }
-    ensures { result ≡ first_of (drop 2 (checks k (unlock m))) }
+// Whether current owns it.
+fn owns(k: &Kernel, m: usize) -> bool
+    requires { (current k.now < 16) × (m < 4) }
+    ensures { result ≡ owns_mutex k.now m }
 {
-    let id = current_id(k);
-    let x = k.mutexes[m];
-    let owner = x.owner;
-    let i = leaf_table::internal::slot_of(k, id);
-    let t = k.tasks[i];
-    let owns = owner.is(id);
-    let none = t.owned_mutex_count == 0;
-    answer::refuse_if(!owns, 14, answer::refuse_if(none, 15, 0))
+    k.mutexes[m].owner == Some(current_id(k))
 }
 
-fn unlock_number(k: Kernel, is_whole: bool, m: usize) -> u8
-    requires { is_whole ≡ whole k }
-    ensures { result ≡ number k (unlock m) }
+// Whether current owns the mutex, and its task any.
+#[tactic(auto, using(base::proofs::Choices::taken, base::proofs::Choices::left, base::proofs::Choices::tests))]
+fn check_owner(k: &Kernel, m: usize) -> Result<(), Refusal>
+    requires { (current k.now < 16) × (m < 4) × (slot_of k.now (current_task_id k.now) < 16) }
+    ensures { number_of result ≡ first_of (drop 2 (checks k.now (unlock m))) }
 {
-    let first = leaf_table::internal::object_number(k, is_whole, m);
-    if first != 0 {
-        return first;
+    if !owns(k, m) {
+        return Err(Refusal::NotOwner);
     }
-    unlock_late_number(k, m)
+    let i = leaf_table::internal::slot_of(k, current_id(k)).unwrap();
+    if k.tasks[i].owned_mutex_count == 0 {
+        return Err(Refusal::NothingOwned);
+    }
+    Ok(())
+}
+
+fn check_unlock(k: &Kernel, known: bool, m: usize) -> Result<(), Refusal>
+    requires { (not known || whole k.now) ≡ true }
+    ensures { number_of result ≡ number k.now (unlock m) }
+{
+    leaf_table::internal::check_started_object(k, known, m)?;
+    check_owner(k, m)
 }
 
 // To the head waiter, which is woken.
@@ -45,19 +51,15 @@ fn handed_on(k: Kernel, m: usize) -> Kernel
     requires { (m < 4) × (slot_of k (head (mutex k m).waiters) < 16 → (slot k (slot_of k (head (mutex k m).waiters))).owned_mutex_count ≤ 4) }
     ensures { result ≡ handed_off m k }
 {
-    let x = k.mutexes[m];
-    let q = x.waiters;
+    let q = k.mutexes[m].waiters;
     let head = q.ids[0];
-    let owner = OptionTaskId::Some(head);
-    let handoff_to = OptionTaskId::Some(head);
-    let rest = leaf_queue::popped(q);
     let up = leaf_table::internal::owned_up(k, head);
     let mut next = leaf_table::internal::wake(up, head);
     next.mutexes[m] = Mutex {
         locked: true,
-        owner,
-        handoff_to,
-        waiters: rest,
+        owner: Some(head),
+        handoff_to: Some(head),
+        waiters: leaf_queue::popped(q),
     };
     next
 }
@@ -66,16 +68,9 @@ fn released(mut k: Kernel, m: usize) -> Kernel
     requires { m < 4 }
     ensures { result ≡ lock_freed m k }
 {
-    let x = k.mutexes[m];
-    let owner = OptionTaskId::None;
-    let handoff_to = OptionTaskId::None;
-    let waiters = x.waiters;
-    k.mutexes[m] = Mutex {
-        locked: false,
-        owner,
-        handoff_to,
-        waiters,
-    };
+    k.mutexes[m].locked = false;
+    k.mutexes[m].owner = None;
+    k.mutexes[m].handoff_to = None;
     k
 }
 
@@ -84,10 +79,8 @@ fn unlocked(k: Kernel, m: usize) -> Kernel
     requires { (current k < 16) × (m < 4) × ((i : ℕ) → i < 16 → (slot k i).occupied ≡ true → (slot k i).owned_mutex_count ≤ 4) }
     ensures { result ≡ effect k (unlock m) }
 {
-    let id = current_id(k);
-    let x = k.mutexes[m];
-    let down = leaf_table::internal::owned_down(k, id);
-    if x.waiters.len == 0 {
+    let down = leaf_table::internal::owned_down(k, current_id(&k));
+    if k.mutexes[m].waiters.len == 0 {
         return released(down, m);
     }
     handed_on(down, m)

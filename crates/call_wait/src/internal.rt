@@ -3,7 +3,7 @@ ghost use Rattle.std.specs.Prelude.{◌≡◌, true, ◌||◌, not};
 ghost use Rattle.kernel.specs.Kernel.{whole};
 ghost use Rattle.kernel.specs.Calls.{wait, step};
 
-use crate::{wait_number, waited};
+use crate::{check_wait, waited};
 use kernel::control::TaskId;
 use kernel::scheduler::{Answer, Kernel, Value};
 use leaf_table::internal::answer;
@@ -13,10 +13,8 @@ pub fn wait_task(k: Kernel, known: bool, id: TaskId) -> Answer
     requires { (not known || whole k) ≡ true }
     ensures { result ≡ step k (wait id) }
 {
-    let is_whole = leaf_whole::internal::is_whole(k, known);
-    let number = wait_number(k, is_whole, id);
-    if number != 0 {
-        return answer::refused(number, k);
+    match check_wait(&k, known, id) {
+        Err(refusal) => answer::refused(refusal, k),
+        Ok(i) => answer::accepted(Value::Nothing, waited(k, i, id)),
     }
-    answer::accepted(Value::Nothing, waited(k, id))
 }

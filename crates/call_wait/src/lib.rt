@@ -1,84 +1,61 @@
 // Wait: sched/scheduler.rs of the source.
 #![tactic(auto)]
 
-ghost use Rattle.std.specs.Prelude.{drop, ◌≡◌, not, ◌&&◌, ◌<◌};
-ghost use Rattle.kernel.specs.declared.control.TaskState.TheVariants.{Terminated};
-ghost use Rattle.kernel.specs.Control.{in_state};
+ghost use Rattle.std.specs.Prelude.{drop, ◌≡◌, true, ◌||◌, IfOk, not, ◌&&◌, ◌<◌};
 ghost use Rattle.kernel.specs.Kernel.{current, slot_of, whole};
+ghost use Rattle.kernel.specs.Refusal.{number_of};
 ghost use Rattle.kernel.specs.Calls.{wait, other_waiter, number, effect, step, first_of, checks};
 
-use kernel::control::{OptionTaskId, TaskControl, TaskId, TaskState};
-use kernel::scheduler::{Answer, Kernel};
+use kernel::control::{TaskId, TaskState};
+use kernel::scheduler::{Answer, Kernel, Refusal};
 
 pub mod internal;
 
-fn other_waiter(waiter: OptionTaskId, id: TaskId) -> bool
+fn other_waiter(waiter: Option<TaskId>, id: TaskId) -> bool
     ensures { result ≡ other_waiter waiter id }
 {
-    match waiter {
-        OptionTaskId::None => false,
-        OptionTaskId::Some(other) => !other.is(id),
-    }
+    waiter.is_some_and(|other| other != id)
 }
 
-// 9 target not Terminated and another waiter recorded.
-fn has_other_waiter(t: TaskControl, id: TaskId) -> bool
-    ensures { result ≡ (not (in_state Terminated t) && other_waiter t.waiter id) }
-{
-    let waiter = t.waiter;
-    !t.is_terminated() & other_waiter(waiter, id)
-}
-
-// 7 oneself; 8 unknown id; 9.
+// The slot of the task that is waited for: not oneself, and not waited for by another unless it is Terminated.
 #[tactic(auto, using(base::proofs::Choices::taken, base::proofs::Choices::left, base::proofs::Choices::tests))]
-fn wait_late_number(k: Kernel, id: TaskId) -> u8
-    requires { current k < 16 }
-    ensures { result ≡ first_of (drop 1 (checks k (wait id))) }
+fn check_target(k: &Kernel, id: TaskId) -> Result<usize, Refusal>
+    requires { current k.now < 16 }
+    ensures number { number_of result ≡ first_of (drop 1 (checks k.now (wait id))) }
+    ensures slot { IfOk result (λ i. i ≡ slot_of k.now id) }
+    ensures below { IfOk result (λ i. i < 16) }
 {
-    let t = leaf_table::internal::current_task(k);
-    let own = t.id;
-    if own.is(id) {
-        return 7;
+    let own = leaf_table::internal::current_id(k);
+    if own == id {
+        return Err(Refusal::UnfitOperand);
     }
-    let i = leaf_table::internal::slot_of(k, id);
-    if Kernel::MAX_TASKS <= i {
-        return 8;
+    let i = leaf_table::internal::slot_of(k, id).ok_or(Refusal::UnknownId)?;
+    if !k.tasks[i].is_terminated() & other_waiter(k.tasks[i].waiter, own) {
+        return Err(Refusal::TaskInUse);
     }
-    if has_other_waiter(k.tasks[i], own) {
-        return 9;
-    }
-    0
+    Ok(i)
 }
 
-#[tactic(auto, using(base::proofs::Choices::taken, base::proofs::Choices::left, base::proofs::Choices::tests), unfolding(kernel::specs::Calls::number))]
-fn wait_number(k: Kernel, is_whole: bool, id: TaskId) -> u8
-    requires { is_whole ≡ whole k }
-    ensures { result ≡ number k (wait id) }
+fn check_wait(k: &Kernel, known: bool, id: TaskId) -> Result<usize, Refusal>
+    requires { (not known || whole k.now) ≡ true }
+    ensures number { number_of result ≡ number k.now (wait id) }
+    ensures slot { IfOk result (λ i. i ≡ slot_of k.now id) }
+    ensures below { IfOk result (λ i. i < 16) }
 {
-    if !is_whole {
-        return 1;
-    }
-    if !k.started {
-        return 2;
-    }
-    wait_late_number(k, id)
+    leaf_table::internal::check_started(k, known)?;
+    check_target(k, id)
 }
 
 #[tactic(auto, using(base::proofs::Choices::taken, base::proofs::Choices::left, base::proofs::Choices::tests), unfolding(kernel::specs::Calls::effect, kernel::specs::Scheduler::wait))]
-fn waited(mut k: Kernel, id: TaskId) -> Kernel
-    requires { (current k < 16) × (slot_of k id < 16) }
+fn waited(mut k: Kernel, i: usize, id: TaskId) -> Kernel
+    requires { (current k < 16) × (i ≡ slot_of k id) × (slot_of k id < 16) }
     ensures { result ≡ effect k (wait id) }
 {
-    let i = leaf_table::internal::slot_of(k, id);
-    let target = k.tasks[i];
-    if target.is_terminated() {
+    if k.tasks[i].is_terminated() {
         return k;
     }
-    let t = leaf_table::internal::current_task(k);
-    let own = t.id;
-    let waiter = OptionTaskId::Some(own);
-    let next = target.with_waiter(waiter);
-    k.tasks[i] = next;
+    let own = leaf_table::internal::current_id(&k);
+    k.tasks[i] = k.tasks[i].with_waiter(Some(own));
     leaf_table::internal::set_status(k, TaskState::Blocked)
 }
 

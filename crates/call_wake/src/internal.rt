@@ -12,11 +12,8 @@ pub fn wake_task(k: Kernel, known: bool, id: TaskId) -> Answer
     requires { (not known || whole k) ≡ true }
     ensures { result ≡ step k (wake id) }
 {
-    let is_whole = leaf_whole::internal::is_whole(k, known);
-    let number = answer::refuse_if(!is_whole, 1, 0);
-    if number != 0 {
-        return answer::refused(number, k);
+    if let Err(refusal) = leaf_whole::internal::check(&k, known) {
+        return answer::refused(refusal, k);
     }
-    let slot = leaf_table::internal::blocked_slot(k, id);
-    answer::woken(k, slot)
+    answer::woken(k, leaf_table::internal::blocked_slot(&k, id))
 }

@@ -10,7 +10,7 @@ use borrow.Author.Tests.{ltb-true, not-true}
 use Rattle.base.specs.Choice.{if◌then◌otherwise◌}
 use Rattle.base.proofs.Choices.{either}
 use Rattle.base.proofs.Loops.{lowest_is, set_each}
-use Rattle.kernel.specs.Types.{Priority, StackRegion, OptionTaskId, None, Some, TaskId, TaskState, Running, Blocked, Sleeping, Terminated, LimitObject, NoLimit, AtSemaphore, AtEvent, TaskControl, WaitQueue, Semaphore, Event, Kernel}
+use Rattle.kernel.specs.Types.{Priority, StackRegion, Option, None, Some, TaskId, TaskState, Running, Blocked, Sleeping, Terminated, LimitObject, NoLimit, AtSemaphore, AtEvent, TaskControl, WaitQueue, Semaphore, Event, Kernel}
 use Rattle.kernel.specs.Update.{with_limit, with_wake_tick, with_owned, with_remaining, with_waiter, with_result, with_tasks, with_charges, with_tick_count, with_started}
 use Rattle.kernel.specs.Control.{state_number, in_state, names, holds_task, has_limit, object_fits, entered, expired, blank_slot, new_task}
 use Rattle.kernel.specs.WaitQueue.{empty_queue, contains, head, enqueued, popped, removed}
@@ -28,7 +28,7 @@ pub data TaskChange : Kind → TaskControl → TaskControl → Type 0 where
   state : {g : Kind} {t : TaskControl} (s : TaskState) → eqb (state_number s) 1 ≡ false → TaskChange g t (entered s t)
   asleep : {g : Kind} {t : TaskControl} (until : ℕ) → TaskChange g t (with_wake_tick until (entered Sleeping t))
   ended : {g : Kind} {t : TaskControl} → TaskChange g t (terminated t)
-  waiter : {g : Kind} {t : TaskControl} (a : OptionTaskId) → TaskChange g t (with_waiter a t)
+  waiter : {g : Kind} {t : TaskControl} (a : Option TaskId) → TaskChange g t (with_waiter a t)
   answered : {g : Kind} {t : TaskControl} (r : ℤ) → TaskChange g t (with_result r t)
   passed : {g : Kind} {t : TaskControl} → TaskChange g t (expired t)
   less : {t : TaskControl} (n : ℕ) → n ≤ t.remaining_slice → TaskChange ticking t (with_remaining n t)
@@ -61,20 +61,20 @@ abbrev pub queue_at : LimitObject → Kernel → WaitQueue
 queue_at o k = queue_in o k.semaphores k.events
 
 -- an owned count up or down, of the task named
-abbrev pub raised : OptionTaskId → Kernel → Kernel
+abbrev pub raised : Option TaskId → Kernel → Kernel
 raised None k = k
 raised (Some a) k = owned_up a k
 
-abbrev pub lowered : OptionTaskId → Kernel → Kernel
+abbrev pub lowered : Option TaskId → Kernel → Kernel
 lowered None k = k
 lowered (Some a) k = owned_down a k
 
 -- the tasks once an owned count went from the one to the other
-abbrev pub moved : OptionTaskId → OptionTaskId → Kernel → List TaskControl
+abbrev pub moved : Option TaskId → Option TaskId → Kernel → List TaskControl
 moved from to k = (raised to (lowered from k)).tasks
 
 -- how mutex m goes from one owner to another; locked then or not
-pub data Hand (k : Kernel) (m : ℕ) : Bool → OptionTaskId → OptionTaskId → Type 0 where
+pub data Hand (k : Kernel) (m : ℕ) : Bool → Option TaskId → Option TaskId → Type 0 where
   taken : (mutex k m).locked ≡ false → Hand k m true None (Some (current_task_id k))
   freed : names (mutex k m).owner (current_task_id k) ≡ true → Hand k m false (Some (current_task_id k)) None
   handed : names (mutex k m).owner (current_task_id k) ≡ true → Hand k m true (Some (current_task_id k)) (Some (head (mutex k m).waiters))
@@ -94,9 +94,9 @@ pub data Change : Kind → Kernel → Kernel → Type 0 where
   -- a semaphore's count, an event's flag, a mutex's handoff_to, each with its queue
   permits : {g : Kind} {k : Kernel} (s n : ℕ) (q : WaitQueue) → s < 4 → QueueChange (Unlimited k) (current_task_id k) (semaphore k s).waiters q → Change g k (with_semaphore s (record { count = n; waiters = q }) k)
   flag : {g : Kind} {k : Kernel} (e : ℕ) (b : Bool) (q : WaitQueue) → e < 4 → QueueChange (Unlimited k) (current_task_id k) (event k e).waiters q → Change g k (with_event e (record { signaled = b; waiters = q }) k)
-  handoff : {k : Kernel} (m : ℕ) (h : OptionTaskId) (q : WaitQueue) → m < 4 → QueueChange Anyone (current_task_id k) (mutex k m).waiters q → Change owning k (with_mutex m (record { locked = (mutex k m).locked; owner = (mutex k m).owner; handoff_to = h; waiters = q }) k)
+  handoff : {k : Kernel} (m : ℕ) (h : Option TaskId) (q : WaitQueue) → m < 4 → QueueChange Anyone (current_task_id k) (mutex k m).waiters q → Change owning k (with_mutex m (record { locked = (mutex k m).locked; owner = (mutex k m).owner; handoff_to = h; waiters = q }) k)
   -- a mutex's owner, with the owned counts of both
-  owner : {k : Kernel} (m : ℕ) (l : Bool) (from to h : OptionTaskId) (q : WaitQueue) → m < 4 → Hand k m l from to → QueueChange Anyone (current_task_id k) (mutex k m).waiters q → Change owning k (with_mutex m (record { locked = l; owner = to; handoff_to = h; waiters = q }) (with_tasks (moved from to k) k))
+  owner : {k : Kernel} (m : ℕ) (l : Bool) (from to h : Option TaskId) (q : WaitQueue) → m < 4 → Hand k m l from to → QueueChange Anyone (current_task_id k) (mutex k m).waiters q → Change owning k (with_mutex m (record { locked = l; owner = to; handoff_to = h; waiters = q }) (with_tasks (moved from to k) k))
   -- a slot filled or emptied, with task_count
   added : {k : Kernel} (p : Priority) (r : StackRegion) → lowest_empty k < 16 → RegionFits k.arena_words r → Change adding k (Scheduler.add p r k)
   reaped : {k : Kernel} (i : ℕ) → i < 16 → (0 ≡ i → ⊥) → (current k ≡ i → ⊥) → holds_task Terminated (slot k i) ≡ true → Change reaping k (emptied i k)
@@ -115,18 +115,18 @@ pub id_each : (P : Kernel → Type 0) (a : TaskId) (f : TaskControl → TaskCont
 unfolding at_id
 id_each P a f k h p = either P (is_present k a) (λ e. h (slot_of k a) (ltb-true _ _ e)) (λ _. p)
 
-pub owner_each : (P : Kernel → Type 0) → ((k : Kernel) (i n : ℕ) → i < 16 → P k → P (at i (with_owned n) k)) → (from to : OptionTaskId) (k : Kernel) → P k → P (raised to (lowered from k))
+pub owner_each : (P : Kernel → Type 0) → ((k : Kernel) (i n : ℕ) → i < 16 → P k → P (at i (with_owned n) k)) → (from to : Option TaskId) (k : Kernel) → P k → P (raised to (lowered from k))
 owner_each P h from to k p = up to (lowered from k) (down from k p)
   where
-    down : (a : OptionTaskId) (x : Kernel) → P x → P (lowered a x)
+    down : (a : Option TaskId) (x : Kernel) → P x → P (lowered a x)
     down None x q = q
     down (Some a) x q = id_each P a _ x (λ i l. h x i _ l q) q
 
-    up : (a : OptionTaskId) (x : Kernel) → P x → P (raised a x)
+    up : (a : Option TaskId) (x : Kernel) → P x → P (raised a x)
     up None x q = q
     up (Some a) x q = id_each P a _ x (λ i l. h x i _ l q) q
 
-pub moved_tasks : (from to : OptionTaskId) (k : Kernel) → with_tasks (moved from to k) k ≡ raised to (lowered from k)
+pub moved_tasks : (from to : Option TaskId) (k : Kernel) → with_tasks (moved from to k) k ≡ raised to (lowered from k)
 moved_tasks from to k = owner_each (λ x. with_tasks x.tasks k ≡ x) (λ x i n _ e. ap (λ (y : Kernel). with_tasks (set x.tasks i (with_owned n (slot x i))) y) e) from to k refl
 
 -- a relation that goes on from one to the next

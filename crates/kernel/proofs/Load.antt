@@ -1,6 +1,6 @@
 -- Load per thousand: exactly one share and remainder meet 02's equation with its bound, the definition finds them, and
 -- they are the quotient and the rest. Then what the call's checks say.
-use Prim.Native.Nat.{ℕ, ◌+◌, ◌-◌, ◌*◌, ◌/◌, ◌%◌, ◌≤◌, ◌<◌}
+use Prim.Native.Nat.{ℕ, ◌+◌, ◌*◌, ◌/◌, ◌%◌, ◌≤◌, ◌<◌}
 use native.Mathlib.Omega.{arith}
 use native.Mathlib.Nat.{mul-le-mul_right, div-add-mod', mod-lt, suc-mul}
 use native.Mathlib.Decide.{dec_lt}

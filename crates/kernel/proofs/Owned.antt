@@ -14,7 +14,7 @@ use Rattle.base.specs.Choice.{if◌then◌otherwise◌}
 use Rattle.base.specs.Below.{count_below}
 use Rattle.base.proofs.Choices.{either, and_left, and_right}
 use Rattle.base.proofs.Loops.{count_same, count_le, count_one, count_some, sum_none, lowest_is, lowest_at, set_each, tabulate_at, tabulate_length}
-use Rattle.kernel.specs.Types.{OptionTaskId, None, Some, TaskId, Running, TaskControl, WaitQueue, Mutex, Semaphore, Event, Kernel}
+use Rattle.kernel.specs.Types.{Option, None, Some, TaskId, Running, TaskControl, WaitQueue, Mutex, Semaphore, Event, Kernel}
 use Rattle.kernel.specs.Update.{with_owned, with_tasks, with_charges, with_task_count, with_next_id}
 use Rattle.kernel.specs.Control.{names, in_state, blank_slot, new_task, entered}
 use Rattle.kernel.specs.WaitQueue.{zero_id, place, position, contains, is_full, pushed, enqueued, place_without, without, is_empty, head, popped, removed}
@@ -40,7 +40,7 @@ no_mutex = record { locked = false; owner = None; handoff_to = None; waiters = r
 abbrev pub owned_by : Kernel → TaskId → ℕ
 owned_by k a = count_below (λ m. names (mutex k m).owner a) 4
 
-abbrev Known : ℕ → OptionTaskId → Type 0
+abbrev Known : ℕ → Option TaskId → Type 0
 Known n None = Unit {0}
 Known n (Some a) = a.0 < n
 
@@ -149,7 +149,7 @@ bit_le p n x l = go (p x) refl
     go true e = count_some p n x l e
     go false e = omega arith
 
-same_names : (o : OptionTaskId) (c a : TaskId) → names o c ≡ true → names o a ≡ names (Some c) a
+same_names : (o : Option TaskId) (c a : TaskId) → names o c ≡ true → names o a ≡ names (Some c) a
 same_names None c a e = absurd (false≢true e)
 same_names (Some b) c a e = ap (λ (n : ℕ). eqb n a.0) (eqb-true b.0 c.0 e)
 
@@ -205,11 +205,11 @@ choose_down : (b : Bool) (n : ℕ) → choose b (λ x. x - 1) n ≡ n - bit b
 choose_down true n = refl
 choose_down false n = omega arith
 
-moved_same : (from to : OptionTaskId) (k : Kernel) (j : ℕ) → ((slot (raised to (lowered from k)) j).occupied ≡ (slot k j).occupied) × ((slot (raised to (lowered from k)) j).id ≡ (slot k j).id)
+moved_same : (from to : Option TaskId) (k : Kernel) (j : ℕ) → ((slot (raised to (lowered from k)) j).occupied ≡ (slot k j).occupied) × ((slot (raised to (lowered from k)) j).id ≡ (slot k j).id)
 moved_same from to k = owner_each (λ y. (j : ℕ) → ((slot y j).occupied ≡ (slot k j).occupied) × ((slot y j).id ≡ (slot k j).id))
     (λ y i n _ e. set_each (λ j t. (t.occupied ≡ (slot k j).occupied) × (t.id ≡ (slot k j).id)) blank_slot y.tasks i _ (e i) e) from to k (λ _. (refl, refl))
 
-moved_size : (from to : OptionTaskId) (k : Kernel) → length (moved from to k) ≡ length k.tasks
+moved_size : (from to : Option TaskId) (k : Kernel) → length (moved from to k) ≡ length k.tasks
 moved_size from to k = owner_each (λ y. length y.tasks ≡ length k.tasks) (λ y i n _ e. length-set y.tasks i _ ∙ e) from to k refl
 
 -- the counts once mutex m goes to another owner
@@ -223,8 +223,8 @@ module _ (k : Kernel) (w : Owned k) (m : ℕ) (l : m < 4) (i : ℕ) (o : Occupie
       let here = get_or-set_same k.mutexes m x no_mutex (omega (arith, l, w.mutexes)) in
       rw here at (count_move (λ j. names (mutex k j).owner a) (λ j. names (get_or (set k.mutexes m x) j no_mutex).owner a) 4 m l (λ j n. rw (get_or-set_other k.mutexes m j x no_mutex n)))
 
-  hand_counts : {b : Bool} {from to : OptionTaskId} → Hand k m b from to → (slot (raised to (lowered from k)) i).owned_mutex_count + bit (names (mutex k m).owner a) ≡ (slot k i).owned_mutex_count + bit (names to a)
-  hand_counts (taken e) = omega (arith, at_owned k w.slots w.apart (current_task_id k) (λ x. x + 1) i o, choose_up (names (Some (current_task_id k)) a) (slot k i).owned_mutex_count, ap (λ (x : OptionTaskId). bit (names x a)) (w.free m e))
+  hand_counts : {b : Bool} {from to : Option TaskId} → Hand k m b from to → (slot (raised to (lowered from k)) i).owned_mutex_count + bit (names (mutex k m).owner a) ≡ (slot k i).owned_mutex_count + bit (names to a)
+  hand_counts (taken e) = omega (arith, at_owned k w.slots w.apart (current_task_id k) (λ x. x + 1) i o, choose_up (names (Some (current_task_id k)) a) (slot k i).owned_mutex_count, ap (λ (x : Option TaskId). bit (names x a)) (w.free m e))
   hand_counts (freed e) = omega (arith, at_owned k w.slots w.apart (current_task_id k) (λ x. x - 1) i o, choose_down (names (Some (current_task_id k)) a) (slot k i).owned_mutex_count, ap bit (same_names (mutex k m).owner (current_task_id k) a e), w.counts i o, bit_le (λ j. names (mutex k j).owner a) 4 m l)
   hand_counts (handed e) =
       let k₁ = lowered (Some (current_task_id k)) k in
@@ -266,17 +266,17 @@ mutex_stays {k} m x l w size s known queue free counts = record {
     was : (i : ℕ) → (get_or l i blank_slot).occupied ≡ true → Occupied k i
     was i o = sym (s i).0 ∙ o
 
-hand_known : {k : Kernel} {m : ℕ} {b : Bool} {from to : OptionTaskId} → Owned k → Hand k m b from to → Known k.next_id to
+hand_known : {k : Kernel} {m : ℕ} {b : Bool} {from to : Option TaskId} → Owned k → Hand k m b from to → Known k.next_id to
 hand_known {k} w (taken e) = w.ids (current k) w.running
 hand_known w (freed e) = tt
 hand_known {k} {m} w (handed e) = w.queued m 0
 
-hand_free : {k : Kernel} {m : ℕ} {b : Bool} {from to : OptionTaskId} → Hand k m b from to → b ≡ false → to ≡ None
+hand_free : {k : Kernel} {m : ℕ} {b : Bool} {from to : Option TaskId} → Hand k m b from to → b ≡ false → to ≡ None
 hand_free (taken e) f = absurd (false≢true (sym f))
 hand_free (freed e) f = refl
 hand_free (handed e) f = absurd (false≢true (sym f))
 
-nobody : (n : ℕ) (o : OptionTaskId) → Known n o → names o (record { 0 = n }) ≡ false
+nobody : (n : ℕ) (o : Option TaskId) → Known n o → names o (record { 0 = n }) ≡ false
 nobody n None h = refl
 nobody n (Some b) h = ne_eqb b.0 n (λ e. omega arith)
 
@@ -288,7 +288,7 @@ none_counted p (suc n) h = either (λ x. x ≡ 0) (p n) (λ e. absurd (false≢t
 one_same : (k : Kernel) (i : ℕ) (u : TaskControl) → Same (slot k i) u → (j : ℕ) → Same (slot k j) (get_or (set k.tasks i u) j blank_slot)
 one_same k i u s = set_each (λ j t. Same (slot k j) t) blank_slot k.tasks i u s (unmoved k)
 
-later : (n : ℕ) (o : OptionTaskId) → Known n o → Known (n + 1) o
+later : (n : ℕ) (o : Option TaskId) → Known n o → Known (n + 1) o
 later n None h = tt
 later n (Some a) h = omega arith
 

@@ -14,7 +14,7 @@ use Rattle.base.specs.Choice.{if◌then◌otherwise◌}
 use Rattle.base.specs.Below.{count_below, lowest_below, smallest_below}
 use Rattle.base.proofs.Choices.{either, and_right, or_left, or_right}
 use Rattle.base.proofs.Loops.{all_at, count_le, count_fewer, lowest_only, lowest_same, lowest_none, smallest_le, smallest_at, smallest_least, smallest_same, smallest_none, set_each}
-use Rattle.kernel.specs.Types.{TaskId, OptionTaskId, None, Some, Ready, Running, Blocked, TaskControl, WaitQueue, Kernel}
+use Rattle.kernel.specs.Types.{TaskId, Option, None, Some, Ready, Running, Blocked, TaskControl, WaitQueue, Kernel}
 use Rattle.kernel.specs.Control.{state_number, in_state, holds_task, entered, blank_slot}
 use Rattle.kernel.specs.WaitQueue.{position, waits_at, contains, is_empty}
 use Rattle.kernel.specs.Kernel.{slot, current, slot_of, mutex}
@@ -252,7 +252,7 @@ module _ (k k' : Kernel) (mutexes : k'.mutexes ≡ k.mutexes) (each : (j : ℕ) 
   unfolding slot_of
   same_slot a = lowest_same _ _ 16 (λ j h. rw ((each j).occupied, (each j).id))
 
-  same_owner : (o : OptionTaskId) → owner_slot k' o ≡ owner_slot k o
+  same_owner : (o : Option TaskId) → owner_slot k' o ≡ owner_slot k o
   same_owner None = refl
   same_owner (Some a) = same_slot a
 

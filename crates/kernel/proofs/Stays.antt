@@ -10,7 +10,7 @@ use borrow.Author.Tests.{leb-false}
 use Rattle.base.specs.Below.{count_below, sum_below}
 use Rattle.base.proofs.Choices.{and_left, either}
 use Rattle.base.proofs.Loops.{count_same, count_le, count_one, set_each, set_default, sum_but, sum_clear}
-use Rattle.kernel.specs.Types.{TaskId, OptionTaskId, Running, Blocked, LimitObject, TaskControl, WaitQueue, Kernel}
+use Rattle.kernel.specs.Types.{TaskId, Option, Running, Blocked, LimitObject, TaskControl, WaitQueue, Kernel}
 use Rattle.kernel.specs.Update.{with_limit, with_tasks, with_charges, with_retired_charge, with_task_count, with_next_id}
 use Rattle.kernel.specs.Control.{in_state, holds_task, object_fits, entered, blank_slot, new_task}
 use Rattle.kernel.specs.WaitQueue.{contains, is_full, pushed, enqueued, without, is_empty, popped, removed}
@@ -141,7 +141,7 @@ Besides ticking k k' = Unit {0}
 Besides owning k k' = OwnedFits k'
 Besides plain k k' = Unit {0}
 
-moved_stays : (from to : OptionTaskId) (k : Kernel) → ((j : ℕ) → ((slot (raised to (lowered from k)) j).occupied ≡ (slot k j).occupied) × ((slot (raised to (lowered from k)) j).stack ≡ (slot k j).stack) × (LimitFits (slot k j) → LimitFits (slot (raised to (lowered from k)) j)))
+moved_stays : (from to : Option TaskId) (k : Kernel) → ((j : ℕ) → ((slot (raised to (lowered from k)) j).occupied ≡ (slot k j).occupied) × ((slot (raised to (lowered from k)) j).stack ≡ (slot k j).stack) × (LimitFits (slot k j) → LimitFits (slot (raised to (lowered from k)) j)))
 moved_stays from to k = owner_each (λ y. (j : ℕ) → ((slot y j).occupied ≡ (slot k j).occupied) × ((slot y j).stack ≡ (slot k j).stack) × (LimitFits (slot k j) → LimitFits (slot y j)))
     (λ y i n _ e. set_each (λ j t. (t.occupied ≡ (slot k j).occupied) × (t.stack ≡ (slot k j).stack) × (LimitFits (slot k j) → LimitFits t)) blank_slot y.tasks i _ (e i) e) from to k (λ _. (refl, refl, λ h. h))
 

@@ -1,8 +1,8 @@
 -- Every public call: what refuses it, what it answers and what it does (01, "Where a call is turned back").
-use Rattle.std.specs.Prelude.{ℕ, zero, suc, ◌+◌, ◌*◌, ◌/◌, ◌^◌, ◌-◌, ◌≡◌, Bool, false, ◌&&◌, ◌||◌, not, List, [], ◌∷◌, ◌++◌, eqb, leb, ltb, ℤ, length, get_or, drop}
+use Rattle.std.specs.Prelude.{ℕ, zero, suc, ◌*◌, ◌/◌, ◌^◌, ◌-◌, ◌≡◌, Bool, false, ◌&&◌, ◌||◌, not, List, [], ◌∷◌, ◌++◌, eqb, leb, ltb, ℤ, length, get_or, drop}
 use Rattle.base.specs.Choice.{if◌then◌otherwise◌}
 use Rattle.base.specs.Below.{any_below}
-use Rattle.kernel.specs.Types.{TaskId, Priority, OptionTaskId, None, Some, Terminated, StackRegion, TaskControl, TaskInfo, WaitQueue, Kernel, Value, Nothing, Id, Turn, Region, NoRegion, YesNo, Count, Milliseconds, Load, Answer}
+use Rattle.kernel.specs.Types.{TaskId, Priority, Option, None, Some, Terminated, StackRegion, TaskControl, TaskInfo, WaitQueue, Kernel, Value, Nothing, Id, Turn, Region, NoRegion, YesNo, Count, Milliseconds, Load, Answer}
 use Rattle.kernel.specs.Control.{in_state, same_id, state_of, region_fits, sp_in_range, stack_guard_ok, painted, stack_used}
 use Rattle.kernel.specs.WaitQueue.{contains, is_full, is_empty}
 use Rattle.kernel.specs.Kernel.{slot, charge, charge_sum, current, current_task, current_task_id, slot_of, is_present, mutex, semaphore, event, arena_fits, whole, blank_kernel, fresh_kernel}
@@ -119,7 +119,7 @@ abbrev pub no_room : Kernel → WaitQueue → Bool
 no_room k q = is_full q && not (contains q (current_task_id k))
 
 -- a waiter is recorded, and it is another id
-abbrev pub other_waiter : OptionTaskId → TaskId → Bool
+abbrev pub other_waiter : Option TaskId → TaskId → Bool
 other_waiter None a = false
 other_waiter (Some b) a = not (same_id b a)
 

@@ -2,7 +2,7 @@
 use Rattle.std.specs.Prelude.{ℕ, ◌+◌, ◌-◌, ◌*◌, ◌/◌, ◌%◌, Bool, true, false, ◌&&◌, not, List, [], ◌∷◌, ◌++◌, eqb, leb, ltb, pos, length, get_or, take, drop, replicate}
 use Rattle.base.specs.Choice.{if◌then◌otherwise◌, every}
 use Rattle.base.specs.Below.{all_below, lowest_below}
-use Rattle.kernel.specs.Types.{TaskId, Priority, OptionTaskId, None, Some, TaskState, Ready, Running, Blocked, Sleeping, Suspended, Terminated, StackRegion, LimitObject, NoLimit, AtSemaphore, AtEvent, TaskControl}
+use Rattle.kernel.specs.Types.{TaskId, Priority, Option, None, Some, TaskState, Ready, Running, Blocked, Sleeping, Suspended, Terminated, StackRegion, LimitObject, NoLimit, AtSemaphore, AtEvent, TaskControl}
 use Rattle.kernel.specs.Update.{with_state, with_limit, with_limit_passed}
 
 -- ---- states and ids
@@ -32,7 +32,7 @@ abbrev pub same_id : TaskId → TaskId → Bool
 same_id a b = eqb a.0 b.0
 
 -- it is some id, and that one
-abbrev pub names : OptionTaskId → TaskId → Bool
+abbrev pub names : Option TaskId → TaskId → Bool
 names None a = false
 names (Some b) a = eqb b.0 a.0
 

@@ -1,7 +1,7 @@
 -- What each mutex call does where nothing refuses it (synchronization/mutex.rs).
 use Rattle.std.specs.Prelude.{ℕ, Bool, true, false, ◌&&◌, ◌||◌, not}
 use Rattle.base.specs.Choice.{if◌then◌otherwise◌}
-use Rattle.kernel.specs.Types.{OptionTaskId, None, Some, Kernel}
+use Rattle.kernel.specs.Types.{TaskId, Option, None, Some, Kernel}
 use Rattle.kernel.specs.Control.{names}
 use Rattle.kernel.specs.WaitQueue.{is_empty, head, popped, enqueued}
 use Rattle.kernel.specs.Kernel.{current_task_id, mutex, with_mutex}
@@ -15,7 +15,7 @@ abbrev pub is_handed : Kernel → ℕ → Bool
 is_handed k m = names (mutex k m).handoff_to (current_task_id k)
 
 -- unlocked: current's now, with that handoff_to
-abbrev pub lock_taken : OptionTaskId → ℕ → Kernel → Kernel
+abbrev pub lock_taken : Option TaskId → ℕ → Kernel → Kernel
 lock_taken h m k = with_mutex m (record { locked = true; owner = Some (current_task_id k); handoff_to = h; waiters = (mutex k m).waiters }) (owned_up (current_task_id k) k)
 
 abbrev pub handoff_done : ℕ → Kernel → Kernel

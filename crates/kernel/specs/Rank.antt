@@ -2,7 +2,7 @@
 use Rattle.std.specs.Prelude.{ℕ, zero, suc, Bool, false, ◌&&◌, ◌||◌, List, [], ◌∷◌, eqb, leb, ltb}
 use Rattle.base.specs.Choice.{if◌then◌otherwise◌}
 use Rattle.base.specs.Below.{all_below, lowest_below, smallest_below}
-use Rattle.kernel.specs.Types.{TaskId, OptionTaskId, None, Some, Blocked, Kernel}
+use Rattle.kernel.specs.Types.{TaskId, Option, None, Some, Blocked, Kernel}
 use Rattle.kernel.specs.Control.{holds_task}
 use Rattle.kernel.specs.WaitQueue.{contains, is_empty}
 use Rattle.kernel.specs.Kernel.{slot, slot_of, mutex}
@@ -14,7 +14,7 @@ priority_of k i = (slot k i).priority.0
 -- ---- links
 
 -- the slot of an owner; 16 where there is none, or where it is no present task
-abbrev pub owner_slot : Kernel → OptionTaskId → ℕ
+abbrev pub owner_slot : Kernel → Option TaskId → ℕ
 owner_slot k None = 16
 owner_slot k (Some a) = slot_of k a
 

@@ -2,7 +2,7 @@
 use Rattle.std.specs.Prelude.{ℕ, zero, suc, ◌+◌, ◌-◌, ◌%◌, ◌^◌, min, Bool, true, false, ◌&&◌, ◌||◌, not, eqb, leb, ltb, ℤ, set}
 use Rattle.base.specs.Choice.{if◌then◌otherwise◌}
 use Rattle.base.specs.Below.{all_below, any_below, lowest_below}
-use Rattle.kernel.specs.Types.{TaskId, Priority, OptionTaskId, None, Some, TaskState, Ready, Running, Blocked, Sleeping, Terminated, StackRegion, LimitObject, NoLimit, AtSemaphore, AtEvent, TaskControl, WaitQueue, Kernel}
+use Rattle.kernel.specs.Types.{TaskId, Priority, Option, None, Some, TaskState, Ready, Running, Blocked, Sleeping, Terminated, StackRegion, LimitObject, NoLimit, AtSemaphore, AtEvent, TaskControl, WaitQueue, Kernel}
 use Rattle.kernel.specs.Update.{with_limit, with_wake_tick, with_remaining, with_owned, with_waiter, with_sp, with_result, with_tasks, with_charges, with_retired_charge, with_tick_count, with_started, with_current, with_task_count, with_next_id}
 use Rattle.kernel.specs.Control.{in_state, holds_task, has_limit, entered, expired, unblocked, blank_slot, new_task, regions_overlap}
 use Rattle.kernel.specs.WaitQueue.{head, popped, removed}
@@ -62,7 +62,7 @@ wake a k = at_id a unblocked k
 abbrev pub wakes : TaskId → Kernel → Bool
 wakes a k = is_present k a && in_state Blocked (slot k (slot_of k a))
 
-abbrev pub wake_waiter : OptionTaskId → Kernel → Kernel
+abbrev pub wake_waiter : Option TaskId → Kernel → Kernel
 wake_waiter None k = k
 wake_waiter (Some a) k = wake a k
 

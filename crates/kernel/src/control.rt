@@ -2,27 +2,20 @@
 ghost use Rattle.std.specs.Prelude.{◌≡◌};
 ghost use Rattle.base.specs.Choice.{if◌then◌otherwise◌};
 ghost use Rattle.kernel.specs.Update.{with_state, with_waiter, with_time_slice, with_limit};
-ghost use Rattle.kernel.specs.Control.{state_number, in_state, same_id, names, is_limit, has_limit, object_fits, limit_ended, entered, expired, blank_slot};
+ghost use Rattle.kernel.specs.Control.{state_number, in_state, is_limit, has_limit, object_fits, limit_ended, entered, expired, blank_slot};
 
 // A place in the table, 0 to 15; never taken for a task's id.
-#[derive(Clone, Copy)]
+#[derive(Clone, Copy, PartialEq, Eq)]
 pub struct SlotIndex(pub usize);
 
-#[derive(Clone, Copy)]
+#[derive(Clone, Copy, PartialEq, Eq)]
 pub struct TaskId(pub u32);
 
 // Smaller is better.
-#[derive(Clone, Copy)]
+#[derive(Clone, Copy, PartialEq, Eq)]
 pub struct Priority(pub u8);
 
-// The source's `Option<TaskId>`.
-#[derive(Clone, Copy)]
-pub enum OptionTaskId {
-    None,
-    Some(TaskId),
-}
-
-#[derive(Clone, Copy)]
+#[derive(Clone, Copy, PartialEq, Eq)]
 pub enum TaskState {
     Ready,
     Running,
@@ -65,7 +58,7 @@ pub struct TaskControl {
     pub limit_tick: u64,
     pub remaining_slice: u32,
     pub owned_mutex_count: u32,
-    pub waiter: OptionTaskId,
+    pub waiter: Option<TaskId>,
     pub sp: u32,
     pub result: i32,
 }
@@ -83,24 +76,6 @@ pub struct TaskInfo {
 impl TaskId {
     // As `next_id` counts, which goes one past it.
     pub const LAST: u64 = u32::MAX as u64;
-
-    pub fn is(self, other: TaskId) -> bool
-        ensures { result ≡ same_id self other }
-    {
-        self.0 == other.0
-    }
-}
-
-impl OptionTaskId {
-    // Whether it is that id.
-    pub fn is(self, id: TaskId) -> bool
-        ensures { result ≡ names self id }
-    {
-        match self {
-            OptionTaskId::None => false,
-            OptionTaskId::Some(other) => other.0 == id.0,
-        }
-    }
 }
 
 impl LimitObject {
@@ -173,7 +148,7 @@ impl TaskControl {
             limit_tick: 0,
             remaining_slice: 0,
             owned_mutex_count: 0,
-            waiter: OptionTaskId::None,
+            waiter: None,
             sp: 0,
             result: 0,
         }
@@ -182,8 +157,7 @@ impl TaskControl {
     pub fn is_in(self, state: TaskState) -> bool
         ensures { result ≡ in_state state self }
     {
-        let own = self.state;
-        own.number() == state.number()
+        self.state == state
     }
 
     pub fn is_ready(self) -> bool
@@ -224,43 +198,21 @@ impl TaskControl {
         self
     }
 
-    // `limit_passed` once a limit has ended, by its own tick or not; without one it stays.
-    fn passed(self, own: bool) -> bool
-        ensures { result ≡ (if has_limit self then own otherwise self.limit_passed) }
-    {
-        let object = self.limit_object;
-        if object.is_limit() {
-            own
-        } else {
-            self.limit_passed
-        }
-    }
-
     // In that state; a limit ends, by its own tick or not.
+    #[tactic(auto, using(base::proofs::Choices::taken, base::proofs::Choices::left, base::proofs::Choices::tests))]
     fn ended(self, state: TaskState, own: bool) -> Self
         ensures { result ≡ limit_ended own (with_state state self) }
     {
-        let id = self.id;
-        let priority = self.priority;
-        let waiter = self.waiter;
-        let stack = self.stack;
-        let passed = self.passed(own);
         TaskControl {
-            occupied: self.occupied,
             state,
-            priority,
-            limit_passed: passed,
+            limit_passed: if self.limit_object.is_limit() {
+                own
+            } else {
+                self.limit_passed
+            },
             limit_object: LimitObject::NoLimit,
-            stack,
-            id,
-            time_slice: self.time_slice,
-            wake_tick: self.wake_tick,
             limit_tick: 0,
-            remaining_slice: self.remaining_slice,
-            owned_mutex_count: self.owned_mutex_count,
-            waiter,
-            sp: self.sp,
-            result: self.result,
+            ..self
         }
     }
 
@@ -278,58 +230,19 @@ impl TaskControl {
         self.ended(TaskState::Ready, true)
     }
 
-    pub fn with_waiter(self, waiter: OptionTaskId) -> Self
+    pub fn with_waiter(mut self, waiter: Option<TaskId>) -> Self
         ensures { result ≡ with_waiter waiter self }
     {
-        let id = self.id;
-        let state = self.state;
-        let priority = self.priority;
-        let stack = self.stack;
-        let limit_object = self.limit_object;
-        TaskControl {
-            occupied: self.occupied,
-            state,
-            priority,
-            limit_passed: self.limit_passed,
-            limit_object,
-            stack,
-            id,
-            time_slice: self.time_slice,
-            wake_tick: self.wake_tick,
-            limit_tick: self.limit_tick,
-            remaining_slice: self.remaining_slice,
-            owned_mutex_count: self.owned_mutex_count,
-            waiter,
-            sp: self.sp,
-            result: self.result,
-        }
+        self.waiter = waiter;
+        self
     }
 
     // A limit at that object, which ends at that tick.
-    pub fn with_limit(self, object: LimitObject, tick: u64) -> Self
+    pub fn with_limit(mut self, object: LimitObject, tick: u64) -> Self
         ensures { result ≡ with_limit object tick self }
     {
-        let id = self.id;
-        let state = self.state;
-        let priority = self.priority;
-        let waiter = self.waiter;
-        let stack = self.stack;
-        TaskControl {
-            occupied: self.occupied,
-            state,
-            priority,
-            limit_passed: self.limit_passed,
-            limit_object: object,
-            stack,
-            id,
-            time_slice: self.time_slice,
-            wake_tick: self.wake_tick,
-            limit_tick: tick,
-            remaining_slice: self.remaining_slice,
-            owned_mutex_count: self.owned_mutex_count,
-            waiter,
-            sp: self.sp,
-            result: self.result,
-        }
+        self.limit_object = object;
+        self.limit_tick = tick;
+        self
     }
 }

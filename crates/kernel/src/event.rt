@@ -14,10 +14,9 @@ impl Event {
     pub fn new() -> Self
         ensures { result ≡ new_event }
     {
-        let waiters = WaitQueue::new();
         Event {
             signaled: false,
-            waiters,
+            waiters: WaitQueue::new(),
         }
     }
 }

@@ -2,14 +2,14 @@
 ghost use Rattle.std.specs.Prelude.{◌≡◌};
 ghost use Rattle.kernel.specs.Kernel.{new_mutex};
 
-use crate::control::OptionTaskId;
+use crate::control::TaskId;
 use crate::wait_queue::WaitQueue;
 
 #[derive(Clone, Copy)]
 pub struct Mutex {
     pub locked: bool,
-    pub owner: OptionTaskId,
-    pub handoff_to: OptionTaskId,
+    pub owner: Option<TaskId>,
+    pub handoff_to: Option<TaskId>,
     pub waiters: WaitQueue,
 }
 
@@ -17,14 +17,11 @@ impl Mutex {
     pub fn new() -> Self
         ensures { result ≡ new_mutex }
     {
-        let owner = OptionTaskId::None;
-        let handoff_to = OptionTaskId::None;
-        let waiters = WaitQueue::new();
         Mutex {
             locked: false,
-            owner,
-            handoff_to,
-            waiters,
+            owner: None,
+            handoff_to: None,
+            waiters: WaitQueue::new(),
         }
     }
 }

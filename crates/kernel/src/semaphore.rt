@@ -14,7 +14,9 @@ impl Semaphore {
     pub fn new() -> Self
         ensures { result ≡ new_semaphore }
     {
-        let waiters = WaitQueue::new();
-        Semaphore { count: 0, waiters }
+        Semaphore {
+            count: 0,
+            waiters: WaitQueue::new(),
+        }
     }
 }

@@ -17,9 +17,8 @@ impl WaitQueue {
     pub fn new() -> Self
         ensures { result ≡ empty_queue }
     {
-        let none = TaskId(0);
         WaitQueue {
-            ids: [none; WaitQueue::MAX_WAITERS],
+            ids: [TaskId(0); WaitQueue::MAX_WAITERS],
             len: 0,
         }
     }

@@ -1,32 +1,33 @@
 -- The walk: each link passes the number on to one slot more, and the rest of the chain goes on with that slot met. Then every slot's walk, and the links.
-use Prim.Native.Nat.{ℕ, zero, suc, ◌+◌, ◌-◌, ◌≤◌, ◌<◌, zero-le, min}
+use Prim.Native.Nat.{ℕ, zero, suc, ◌+◌, ◌-◌, ◌≤◌, ◌<◌, min}
 use native.Mathlib.Omega.{arith}
 use native.Mathlib.Nat.{le_refl}
 use native.Mathlib.Decide.{ℕ_discrete, dec_lt}
 use native.Mathlib.Numerals.{add-one, sub-one}
 use mathlib.Core.Path.{◌≡◌, refl, sym, ap, ◌∙◌}
-use mathlib.Core.Bool.{Bool, true, false, ◌&&◌, ◌||◌}
-use mathlib.Core.List.{List, []}
+use mathlib.Core.Bool.{Bool, true, false, false≢true, cond, ◌&&◌, ◌||◌}
+use mathlib.Core.List.{List, [], map}
 use lib.Dec.{eqb, leb, ltb}
-use lib.ListN.{length, get_or, set, replicate, get_or-eq_default}
+use lib.ListN.{length, get_or, set, replicate, get_or-eq_default, get_or-map}
 use lib.Seq.{get_or-set_same, get_or-set_other}
-use borrow.Author.Tests.{ltb-true, lt-ltb, le-ltb, le-leb, lt-leb, eq-eqb, ne_eqb}
+use borrow.Author.Tests.{lt-ltb, le-ltb, le-leb, lt-leb, eq-eqb, ne_eqb}
 use Rattle.base.specs.Choice.{if◌then◌otherwise◌}
 use Rattle.base.specs.Below.{smallest_below, tabulate}
 use Rattle.base.proofs.Choices.{either}
+use Rattle.base.proofs.Lists.{position_is}
+use Rattle.kernel.specs.WaitQueue.{contains}
 use Rattle.base.proofs.Loops.{lowest_le, smallest_same, tabulate_length, tabulate_at}
 use Rattle.kernel.specs.declared.control.TaskId.{TaskId}
-use Rattle.kernel.specs.declared.control.OptionTaskId.{OptionTaskId}
-use Rattle.kernel.specs.declared.control.OptionTaskId.TheVariants.{None, Some}
+use Rattle.kernel.specs.Types.{Option, None, Some}
+use Rattle.std.specs.Option.{is_some, unwrap_or, option_and_then, IfSome}
+use Rattle.std.specs.List.{position}
 use Rattle.kernel.specs.declared.control.TaskState.TheVariants.{Blocked}
-use Rattle.kernel.specs.declared.control.TaskControl.{TaskControl}
-use Rattle.kernel.specs.declared.mutex.Mutex.{Mutex}
 use Rattle.kernel.specs.declared.scheduler.Kernel.{Kernel}
 use Rattle.kernel.specs.Control.{holds_task}
 use Rattle.kernel.specs.Kernel.{slot, slot_of, holds_id, mutex}
 use Rattle.kernel.specs.Rank.{priority_of, queued_at, owner_slot, link, chain, is_in, leads_to, rank}
 use Rattle.kernel.proofs.Rank.{chain_ends, chain_more, chain_zero, chain_same, leads_same, leads_none}
-use Rattle.leaf_rank.specs.Inherited.{queued_of, link_of, Slots, Each, link_at, inherited_by, inherited_from, Inherited}
+use Rattle.leaf_rank.specs.Inherited.{some_slot, link_of, Slots, Each, link_at, inherited_by, inherited_from, Inherited}
 
 -- ---- the walk
 
@@ -47,7 +48,7 @@ met_more met y x h = go (ℕ_discrete x y)
     go (no n) = rw (get_or-set_other met y x true false n, ne_eqb x y n) (off (get_or met x false))
 
 -- a walk that ends passes on to nobody
-module _ (links : List ℕ) (met : List Bool) (ranks : List ℕ) (number j left i : ℕ) where
+module _ (links : List (Option ℕ)) (met : List Bool) (ranks : List ℕ) (number j left i : ℕ) where
   walk_ends : chain (link_at links) left (λ x. get_or met x false) j ≡ [] → get_or ranks i 0 ≡ inherited_by links met ranks number j left i
   unfolding if◌then◌otherwise◌ inherited_by
   walk_ends e = rw e
@@ -55,11 +56,15 @@ module _ (links : List ℕ) (met : List Bool) (ranks : List ℕ) (number j left 
   pub walk_none : left ≡ 0 → get_or ranks i 0 ≡ inherited_by links met ranks number j left i
   walk_none e = walk_ends (rw e (chain_zero (link_at links) (λ x. get_or met x false) j))
 
-  pub walk_out : 16 ≤ get_or links j 0 → get_or ranks i 0 ≡ inherited_by links met ranks number j left i
-  walk_out h = walk_ends (chain_ends (link_at links) left (λ x. get_or met x false) j (rw (le-leb 16 (get_or links j 0) h)))
+  pub walk_out : ((x : ℕ) → get_or links j None ≡ Some x → ⊥) → get_or ranks i 0 ≡ inherited_by links met ranks number j left i
+  walk_out f = walk_ends (chain_ends (link_at links) left (λ x. get_or met x false) j (rw (le-leb 16 (link_at links j) (none_at (get_or links j None) f))))
+    where
+      none_at : (o : Option ℕ) → ((x : ℕ) → o ≡ Some x → ⊥) → 16 ≤ unwrap_or o 16
+      none_at None g = le_refl 16
+      none_at (Some x) g = absurd (g x refl)
 
-  pub walk_met : get_or met (get_or links j 0) false ≡ true → get_or ranks i 0 ≡ inherited_by links met ranks number j left i
-  walk_met e = walk_ends (chain_ends (link_at links) left (λ x. get_or met x false) j (rw e (on (leb 16 (get_or links j 0)))))
+  pub walk_met : (to : ℕ) → get_or links j None ≡ Some to → get_or met to false ≡ true → get_or ranks i 0 ≡ inherited_by links met ranks number j left i
+  walk_met to s e = walk_ends (chain_ends (link_at links) left (λ x. get_or met x false) j (rw (s, e) (on (leb 16 to))))
     where
       on : (b : Bool) → (b || true) ≡ true
       on true = refl
@@ -71,18 +76,18 @@ unfolding if◌then◌otherwise◌
 twice true x n = omega arith
 twice false x n = refl
 
-pub walk_more : (links : List ℕ) (met : List Bool) (ranks : List ℕ) (number j left i y : ℕ) → y ≡ min (get_or ranks (get_or links j 0) 0) number → length met ≡ 16 → length ranks ≡ 16
-    → (left ≡ 0 → ⊥) → get_or links j 0 < 16 → get_or met (get_or links j 0) false ≡ false
-    → inherited_by links (set met (get_or links j 0) true) (set ranks (get_or links j 0) y) number (get_or links j 0) (left - 1) i ≡ inherited_by links met ranks number j left i
+pub walk_more : (links : List (Option ℕ)) (met : List Bool) (ranks : List ℕ) (number j left i y to : ℕ) → Slots links → get_or links j None ≡ Some to → y ≡ min (get_or ranks to 0) number → length met ≡ 16 → length ranks ≡ 16 → (left ≡ 0 → ⊥) → get_or met to false ≡ false
+    → inherited_by links (set met to true) (set ranks to y) number to (left - 1) i ≡ inherited_by links met ranks number j left i
 unfolding if◌then◌otherwise◌ inherited_by
-walk_more links met ranks number j zero i y q lm lr f h e = absurd (f refl)
-walk_more links met ranks number j (suc n) i y q lm lr f h e =
-    rw (chain_more (link_at links) n (λ x. get_or met x false) j (rw (lt-leb 16 (get_or links j 0) h, e)), sub-one (suc n), chain_same (link_at links) (link_at links) n (λ x. get_or (set met (get_or links j 0) true) x false) (λ x. get_or met x false || eqb x (get_or links j 0)) (get_or links j 0) (λ _ _. refl) (λ x _. met_more met (get_or links j 0) x (omega arith)) h)
-    (go (is_in i (chain (link_at links) n (λ x. get_or met x false || eqb x (get_or links j 0)) (get_or links j 0))) (ℕ_discrete i (get_or links j 0)))
+walk_more links met ranks number j zero i y to ls s q lm lr f e = absurd (f refl)
+walk_more links met ranks number j (suc n) i y to ls s q lm lr f e =
+    let h : to < 16 = rw s at (ls.slots j) in
+    rw (chain_more (link_at links) n (λ x. get_or met x false) j (rw (s, lt-leb 16 to h, e)), s, sub-one (suc n), chain_same (link_at links) (link_at links) n (λ x. get_or (set met to true) x false) (λ x. get_or met x false || eqb x to) to (λ _ _. refl) (λ x _. met_more met to x (omega arith)) h)
+    (go h (is_in i (chain (link_at links) n (λ x. get_or met x false || eqb x to) to)) (ℕ_discrete i to))
   where
-    go : (rest : Bool) → Dec (i ≡ get_or links j 0) → (if rest then min (get_or (set ranks (get_or links j 0) y) i 0) number otherwise get_or (set ranks (get_or links j 0) y) i 0) ≡ (if eqb (get_or links j 0) i || rest then min (get_or ranks i 0) number otherwise get_or ranks i 0)
-    go rest (yes g) = rw (← g, get_or-set_same ranks i y 0 (omega arith), eq-eqb i i refl, q, ← g) (twice rest (get_or ranks i 0) number)
-    go rest (no g) = rw (get_or-set_other ranks (get_or links j 0) i y 0 g, ne_eqb (get_or links j 0) i (λ s. g (sym s)))
+    go : to < 16 → (rest : Bool) → Dec (i ≡ to) → (if rest then min (get_or (set ranks to y) i 0) number otherwise get_or (set ranks to y) i 0) ≡ (if eqb to i || rest then min (get_or ranks i 0) number otherwise get_or ranks i 0)
+    go h rest (yes g) = rw (← g, get_or-set_same ranks i y 0 (omega arith), eq-eqb i i refl, q, ← g) (twice rest (get_or ranks i 0) number)
+    go h rest (no g) = rw (get_or-set_other ranks to i y 0 g, ne_eqb to i (λ s. g (sym s)))
 
 -- ---- the walk from slot j, and every slot's
 
@@ -91,83 +96,95 @@ all_false zero x = refl
 all_false (suc n) zero = refl
 all_false (suc n) (suc x) = all_false n x
 
-pub walk_from : (links ranks : List ℕ) (number j i r : ℕ) → j < 16 → r ≡ inherited_by links (set (replicate 16 false) j true) ranks number j 16 i → r ≡ inherited_from links ranks number j i
+pub walk_from : (links : List (Option ℕ)) (ranks : List ℕ) (number j i r : ℕ) → j < 16 → r ≡ inherited_by links (set (replicate 16 false) j true) ranks number j 16 i → r ≡ inherited_from links ranks number j i
 unfolding inherited_by inherited_from leads_to
 walk_from links ranks number j i r h e =
     e ∙ ap (λ c. if is_in i c then min (get_or ranks i 0) number otherwise get_or ranks i 0)
     (chain_same (link_at links) (link_at links) 16 _ (λ x. eqb x j) j (λ _ _. refl) (λ x _. met_more (replicate 16 false) j x (omega arith) ∙ ap (λ b. b || eqb x j) (all_false 16 x)) h)
 
-pub no_walk : (links ranks : List ℕ) (number j i : ℕ) → 16 ≤ get_or links j 0 → get_or ranks i 0 ≡ inherited_from links ranks number j i
+pub no_walk : (links : List (Option ℕ)) (ranks : List ℕ) (number j i : ℕ) → is_some (get_or links j None) ≡ false → get_or ranks i 0 ≡ inherited_from links ranks number j i
 unfolding inherited_from if◌then◌otherwise◌
-no_walk links ranks number j i h = rw (leads_none (link_at links) i j h)
+no_walk links ranks number j i e = rw (leads_none (link_at links) i j (none (get_or links j None) e))
+  where
+    none : (o : Option ℕ) → is_some o ≡ false → 16 ≤ unwrap_or o 16
+    none None g = le_refl 16
+    none (Some x) g = absurd (false≢true (sym g))
 
-pub inherited_none : (links own : List ℕ) → length own ≡ 16 → Inherited links own own 0
+pub inherited_none : (links : List (Option ℕ)) (own : List ℕ) → length own ≡ 16 → Inherited links own own 0
 unfolding smallest_below
 inherited_none links own e = record { long = e; each = λ i h. refl }
 
-pub inherited_more : (links own ranks next : List ℕ) (n : ℕ) → Inherited links own ranks n → Each 16 (inherited_from links ranks (get_or own n 0) n) next → Inherited links own next (n + 1)
+pub inherited_more : (links : List (Option ℕ)) (own ranks next : List ℕ) (n : ℕ) → Inherited links own ranks n → Each 16 (inherited_from links ranks (get_or own n 0) n) next → Inherited links own next (n + 1)
 unfolding smallest_below inherited_from
 inherited_more links own ranks next n l f = record { long = f.long; each = λ i g. f.each i g ∙ rw (add-one n, l.each i g) }
 
-pub inherited_done : (links own ranks : List ℕ) (n : ℕ) → n ≤ 16 → Inherited links own ranks n → 16 ≤ n → Inherited links own ranks 16
+pub inherited_done : (links : List (Option ℕ)) (own ranks : List ℕ) (n : ℕ) → n ≤ 16 → Inherited links own ranks n → 16 ≤ n → Inherited links own ranks 16
 inherited_done links own ranks n b l h = let e : n ≡ 16 = omega arith in rw e at l
 
 -- ---- of a kernel
 
-pub slot_small : (k : Kernel) (a : TaskId) (r : ℕ) → r ≡ slot_of k a → r ≤ 16
-unfolding slot_of
-slot_small k a r e = omega (arith, e, lowest_le (λ i. holds_id a (slot k i)) 16)
+some_below : (n : ℕ) → IfSome (some_slot n) (λ i. i < 16)
+unfolding if◌then◌otherwise◌
+some_below n =
+    elim (dec_lt n 16) [
+      | yes h ↦ rw (lt-ltb n 16 h) h
+      | no h ↦ rw (le-ltb n 16 (omega arith)) tt
+    ]
 
-owner_le : (k : Kernel) (o : OptionTaskId) → owner_slot k o ≤ 16
+some_place : (n : ℕ) → n ≤ 16 → unwrap_or (some_slot n) 16 ≡ n
+unfolding if◌then◌otherwise◌
+some_place n l =
+    elim (dec_lt n 16) [
+      | yes h ↦ rw (lt-ltb n 16 h) refl
+      | no h ↦ rw (le-ltb n 16 (omega arith)) (omega arith)
+    ]
+
+-- an answer that says which slot, or none for 16
+pub some_is : (r : Option ℕ) (n : ℕ) → unwrap_or r 16 ≡ n → IfSome r (λ i. i < 16) → r ≡ some_slot n
+unfolding if◌then◌otherwise◌
+some_is None n e b = rw (← e)
+some_is (Some i) n e b = rw (← e, lt-ltb i 16 b)
+
+owner_le : (k : Kernel) (o : Option TaskId) → owner_slot k o ≤ 16
+unfolding slot_of
 owner_le k None = le_refl 16
-owner_le k (Some a) = slot_small k a (slot_of k a) refl
+owner_le k (Some a) = lowest_le (λ i. holds_id a (slot k i)) 16
 
 link_le : (k : Kernel) (j : ℕ) → link k j ≤ 16
 unfolding link
 link_le k j = either (λ o. o ≤ 16) (holds_task Blocked (slot k j) && ltb (queued_at k (slot k j).id) 4) (λ _. owner_le k (mutex k (queued_at k (slot k j).id)).owner) (λ _. le_refl 16)
 
-pub links_slots : (k : Kernel) (links : List ℕ) → links ≡ tabulate (link k) 16 → Slots links
+pub links_slots : (k : Kernel) (links : List (Option ℕ)) → links ≡ tabulate (λ j. some_slot (link k j)) 16 → Slots links
 links_slots k links e = record { slots = λ j. rw e (go j (dec_lt j 16)) }
   where
-    go : (j : ℕ) → Dec (j < 16) → get_or (tabulate (link k) 16) j 0 ≤ 16
-    go j (yes h) = rw (tabulate_at (link k) 0 16 j h) (link_le k j)
-    go j (no n) = rw (get_or-eq_default (tabulate (link k) 16) 0 {n = j} (omega (arith, tabulate_length (link k) 16, n))) zero-le
+    f : ℕ → Option ℕ
+    f j = some_slot (link k j)
 
-module _ (t : TaskControl) (ms : List Mutex) (owners : List ℕ) where
-  pub link_not : holds_task Blocked t ≡ false → 16 ≡ link_of t ms owners
-  unfolding link_of if◌then◌otherwise◌
-  link_not e = rw e
+    go : (j : ℕ) → Dec (j < 16) → IfSome (get_or (tabulate f 16) j None) (λ i. i < 16)
+    go j (yes h) = rw (tabulate_at f None 16 j h) (some_below (link k j))
+    go j (no n) = rw (get_or-eq_default (tabulate f 16) None {n = j} (omega (arith, tabulate_length f 16, n))) tt
 
-  pub link_off : (m : ℕ) → m ≡ queued_of ms t.id → 4 ≤ m → 16 ≡ link_of t ms owners
-  unfolding link_of if◌then◌otherwise◌
-  link_off m e h = rw (← e, le-ltb m 4 h) (go (holds_task Blocked t))
-    where
-      go : (b : Bool) → 16 ≡ (if b && false then get_or owners m 0 otherwise 16)
-      go true = refl
-      go false = refl
-
-  pub link_on : (m : ℕ) → holds_task Blocked t ≡ true → m ≡ queued_of ms t.id → m < 4 → get_or owners m 0 ≡ link_of t ms owners
-  unfolding link_of if◌then◌otherwise◌
-  link_on m b e h = rw (← e, lt-ltb m 4 h, b)
-
-pub link_is : (k : Kernel) (j : ℕ) (owners : List ℕ) (r : ℕ) → owners ≡ tabulate (λ m. owner_slot k (mutex k m).owner) 4 → r ≡ link_of (slot k j) k.mutexes owners → r ≡ link k j
-unfolding link link_of queued_of if◌then◌otherwise◌
-link_is k j owners r f e = e ∙ go (holds_task Blocked (slot k j)) (ltb (queued_at k (slot k j).id) 4) refl
+-- the link of slot j, by the slots of the owners
+pub link_is : (k : Kernel) (j : ℕ) (owners : List (Option ℕ)) → length k.mutexes ≡ 4 → owners ≡ map (λ m. some_slot (owner_slot k m.owner)) k.mutexes → link_of (slot k j) k.mutexes owners ≡ some_slot (link k j)
+unfolding link link_of if◌then◌otherwise◌
+link_is k j owners l e =
+    let at : position (λ m. contains m.waiters (slot k j).id) k.mutexes ≡ cond (ltb (queued_at k (slot k j).id) 4) (Some (queued_at k (slot k j).id)) None = position_is _ k.mutexes _ 4 l in
+    rw at (go (queued_at k (slot k j).id) (holds_task Blocked (slot k j)) (ltb (queued_at k (slot k j).id) 4))
   where
-    go : (h x : Bool) → ltb (queued_at k (slot k j).id) 4 ≡ x → (if h && x then get_or owners (queued_at k (slot k j).id) 0 otherwise 16) ≡ (if h && x then owner_slot k (mutex k (queued_at k (slot k j).id)).owner otherwise 16)
-    go true true q = rw f (tabulate_at (λ m. owner_slot k (mutex k m).owner) 0 4 (queued_at k (slot k j).id) (ltb-true _ 4 q))
-    go true false q = refl
-    go false x q = refl
+    go : (m : ℕ) (h x : Bool) → (if h then option_and_then (λ o. get_or owners o None) (cond x (Some m) None) otherwise None) ≡ some_slot (if h && x then owner_slot k (mutex k m).owner otherwise 16)
+    go m true true = rw e (get_or-map (λ o. some_slot (owner_slot k o.owner)) k.mutexes m _)
+    go m true false = refl
+    go m false x = refl
 
-pub ranks_are : (k : Kernel) (links own ranks : List ℕ) → links ≡ tabulate (link k) 16 → own ≡ tabulate (priority_of k) 16 → Inherited links own ranks 16 → Each 16 (rank k) ranks
+pub ranks_are : (k : Kernel) (links : List (Option ℕ)) (own ranks : List ℕ) → links ≡ tabulate (λ j. some_slot (link k j)) 16 → own ≡ tabulate (priority_of k) 16 → Inherited links own ranks 16 → Each 16 (rank k) ranks
 unfolding rank
 ranks_are k links own ranks a o l = record {
   long = l.long;
   each = λ i h. l.each i h ∙ rw (numbers i h) (smallest_same (leads_to (link_at links) i) (leads_to (link k) i) (λ j. get_or own j 0) (priority_of k) (priority_of k i) 16 (λ j g. leads_same (link_at links) (link k) i j to g) numbers);
 }
   where
-    to : (j : ℕ) → j < 16 → get_or links j 0 ≡ link k j
-    to j g = rw a (tabulate_at (link k) 0 16 j g)
+    to : (j : ℕ) → j < 16 → link_at links j ≡ link k j
+    to j g = rw (a, tabulate_at (λ x. some_slot (link k x)) None 16 j g) (some_place (link k j) (link_le k j))
 
     numbers : (j : ℕ) → j < 16 → get_or own j 0 ≡ priority_of k j
     numbers j g = rw o (tabulate_at (priority_of k) 0 16 j g)

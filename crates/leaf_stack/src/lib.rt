@@ -12,11 +12,8 @@ use kernel::control::TaskControl;
 pub fn count_prefix(words: &[u32]) -> usize
     ensures { result ≡ count_prefix words.now }
 {
-    let n = words.len();
-    for i in 0..n {
-        if words[i] != TaskControl::STACK_MAGIC {
-            return i;
-        }
-    }
-    n
+    words
+        .iter()
+        .take_while(|w| **w == TaskControl::STACK_MAGIC)
+        .count()
 }

@@ -1,58 +1,83 @@
 // Look-ups in the task table, and changes of one slot. No calls: some ask something of their caller.
 pub mod answer;
 
-ghost use Rattle.std.specs.Prelude.{◌≡◌, ◌≤◌, ◌<◌, [], ◌∷◌};
+ghost use Rattle.std.specs.Prelude.{◌≡◌, true, ◌||◌, not, ◌≤◌, ◌<◌, [], ◌∷◌, IfSome, unwrap_or};
 ghost use Rattle.base.specs.Choice.{if◌then◌otherwise◌};
 ghost use Rattle.kernel.specs.Control.{unblocked};
-ghost use Rattle.kernel.specs.Kernel.{slot, current, current_task, current_task_id, slot_of, whole};
+ghost use Rattle.std.specs.List.{position};
+ghost use Rattle.kernel.specs.Kernel.{holds_id, slot, current, current_task, current_task_id, slot_of, whole};
+ghost use Rattle.kernel.specs.Refusal.{number_of};
 ghost use Rattle.kernel.specs.Calls.{first_of, not_whole, no_object, not_started};
 ghost use Rattle.kernel.specs.Scheduler.{set_status, limited, wake, wakes, owned_up, owned_down};
 
-use crate::internal::answer::refuse_if;
 use kernel::control::{LimitObject, TaskControl, TaskId, TaskState};
-use kernel::internal::{one_less, saturating_add};
-use kernel::scheduler::Kernel;
+use kernel::scheduler::{Kernel, Refusal};
 
-// What a call on an object asks first where it needs the kernel started: 1 not whole; 20 object above 3; 2 not started.
-pub fn object_number(k: Kernel, is_whole: bool, o: usize) -> u8
-    requires { is_whole ≡ whole k }
-    ensures { result ≡ first_of (not_whole k ∷ no_object o ∷ not_started k ∷ []) }
+// What a call asks first that needs the kernel started.
+pub fn check_started(k: &Kernel, known: bool) -> Result<(), Refusal>
+    requires { (not known || whole k.now) ≡ true }
+    ensures { number_of result ≡ first_of (not_whole k.now ∷ not_started k.now ∷ []) }
 {
-    refuse_if(
-        !is_whole,
-        1,
-        refuse_if(Kernel::OBJECTS <= o, 20, refuse_if(!k.started, 2, 0)),
-    )
-}
-
-// The lowest occupied slot that holds the id; 16 where none does.
-pub fn slot_of(k: Kernel, id: TaskId) -> usize
-    ensures { result ≡ slot_of k id }
-{
-    for i in 0..Kernel::MAX_TASKS {
-        let t = k.tasks[i];
-        if t.occupied & (t.id.0 == id.0) {
-            return i;
-        }
+    leaf_whole::internal::check(k, known)?;
+    if !k.started {
+        return Err(Refusal::NotStarted);
     }
-    Kernel::MAX_TASKS
+    Ok(())
 }
 
-pub fn current_task(k: Kernel) -> TaskControl
-    requires { current k < 16 }
-    ensures { result ≡ current_task k }
+// What a call on an object asks first.
+pub fn check_object(k: &Kernel, known: bool, o: usize) -> Result<(), Refusal>
+    requires { (not known || whole k.now) ≡ true }
+    ensures { number_of result ≡ first_of (not_whole k.now ∷ no_object o ∷ []) }
 {
-    let i = k.current.0;
-    k.tasks[i]
+    leaf_whole::internal::check(k, known)?;
+    if Kernel::OBJECTS <= o {
+        return Err(Refusal::NoObject);
+    }
+    Ok(())
+}
+
+// The same where it needs the kernel started.
+pub fn check_started_object(k: &Kernel, known: bool, o: usize) -> Result<(), Refusal>
+    requires { (not known || whole k.now) ≡ true }
+    ensures { number_of result ≡ first_of (not_whole k.now ∷ no_object o ∷ not_started k.now ∷ []) }
+{
+    check_object(k, known, o)?;
+    if !k.started {
+        return Err(Refusal::NotStarted);
+    }
+    Ok(())
+}
+
+// The place of the first task that has the id.
+fn holder(tasks: &[TaskControl], id: TaskId) -> Option<usize>
+    ensures { result ≡ position (holds_id id) tasks.now }
+{
+    tasks.iter().position(|t| t.occupied & (t.id == id))
+}
+
+// The lowest occupied slot that holds the id.
+#[tactic(auto, using(base::proofs::Lists::position_lowest, base::proofs::Lists::position_below), unfolding(kernel::specs::Kernel::slot_of))]
+pub fn slot_of(k: &Kernel, id: TaskId) -> Option<usize>
+    ensures place { unwrap_or result 16 ≡ slot_of k.now id }
+    ensures below { IfSome result (λ i. i < 16) }
+{
+    holder(&k.tasks, id)
+}
+
+pub fn current_task(k: &Kernel) -> TaskControl
+    requires { current k.now < 16 }
+    ensures { result ≡ current_task k.now }
+{
+    k.tasks[k.current.0]
 }
 
 // Current's id.
-pub fn current_id(k: Kernel) -> TaskId
-    requires { current k < 16 }
-    ensures { result ≡ current_task_id k }
+pub fn current_id(k: &Kernel) -> TaskId
+    requires { current k.now < 16 }
+    ensures { result ≡ current_task_id k.now }
 {
-    let t = current_task(k);
-    t.id
+    current_task(k).id
 }
 
 pub fn set_status(mut k: Kernel, state: TaskState) -> Kernel
@@ -60,9 +85,7 @@ pub fn set_status(mut k: Kernel, state: TaskState) -> Kernel
     ensures { result ≡ set_status state k }
 {
     let i = k.current.0;
-    let t = k.tasks[i];
-    let next = t.entered(state);
-    k.tasks[i] = next;
+    k.tasks[i] = k.tasks[i].entered(state);
     k
 }
 
@@ -72,12 +95,11 @@ pub fn limited(mut k: Kernel, object: LimitObject, ticks: u64) -> Kernel
     ensures { result ≡ limited object ticks k }
 {
     let i = k.current.0;
-    let t = k.tasks[i];
-    let next = t.with_limit(object, saturating_add(k.tick_count, ticks));
-    k.tasks[i] = next;
+    k.tasks[i] = k.tasks[i].with_limit(object, k.tick_count.saturating_add(ticks));
     k
 }
 
+#[tactic(auto, using(base::proofs::Choices::taken, base::proofs::Choices::left, base::proofs::Choices::tests), unfolding(kernel::specs::Control::unblocked))]
 fn unblocked(t: TaskControl) -> TaskControl
     ensures { result ≡ unblocked t }
 {
@@ -88,56 +110,51 @@ fn unblocked(t: TaskControl) -> TaskControl
 }
 
 // The task of that id, if it is present and Blocked, becomes Ready.
+#[tactic(auto, using(base::proofs::Choices::taken, base::proofs::Choices::left, base::proofs::Choices::tests), unfolding(kernel::specs::Kernel::at_id))]
 pub fn wake(mut k: Kernel, id: TaskId) -> Kernel
     ensures { result ≡ wake id k }
 {
-    let i = slot_of(k, id);
-    if Kernel::MAX_TASKS <= i {
+    let Some(i) = slot_of(&k, id) else {
         return k;
-    }
-    let next = unblocked(k.tasks[i]);
-    k.tasks[i] = next;
+    };
+    k.tasks[i] = unblocked(k.tasks[i]);
     k
 }
 
-// The slot of that id if the task there is Blocked; 16 elsewhere.
-pub fn blocked_slot(k: Kernel, id: TaskId) -> usize
-    ensures { result ≡ (if wakes id k then slot_of k id otherwise 16) }
+// The slot of that id if the task there is Blocked.
+pub fn blocked_slot(k: &Kernel, id: TaskId) -> Option<usize>
+    ensures place { unwrap_or result 16 ≡ (if wakes id k.now then slot_of k.now id otherwise 16) }
+    ensures below { IfSome result (λ i. i < 16) }
 {
-    let i = slot_of(k, id);
-    if Kernel::MAX_TASKS <= i {
-        return Kernel::MAX_TASKS;
+    let i = slot_of(k, id)?;
+    if k.tasks[i].is_blocked() {
+        Some(i)
+    } else {
+        None
     }
-    let t = k.tasks[i];
-    let blocked = t.is_blocked();
-    if blocked { i } else { Kernel::MAX_TASKS }
 }
 
 // `mutex_acquired` of the source.
+#[tactic(auto, using(base::proofs::Choices::taken, base::proofs::Choices::left, base::proofs::Choices::tests), unfolding(kernel::specs::Kernel::at_id))]
 pub fn owned_up(mut k: Kernel, id: TaskId) -> Kernel
     requires { slot_of k id < 16 → (slot k (slot_of k id)).owned_mutex_count ≤ 4 }
     ensures { result ≡ owned_up id k }
 {
-    let i = slot_of(k, id);
-    if Kernel::MAX_TASKS <= i {
+    let Some(i) = slot_of(&k, id) else {
         return k;
-    }
-    let mut next = k.tasks[i];
-    next.owned_mutex_count = next.owned_mutex_count + 1;
-    k.tasks[i] = next;
+    };
+    k.tasks[i].owned_mutex_count += 1;
     k
 }
 
 // `mutex_released` of the source.
+#[tactic(auto, using(base::proofs::Choices::taken, base::proofs::Choices::left, base::proofs::Choices::tests), unfolding(kernel::specs::Kernel::at_id))]
 pub fn owned_down(mut k: Kernel, id: TaskId) -> Kernel
     ensures { result ≡ owned_down id k }
 {
-    let i = slot_of(k, id);
-    if Kernel::MAX_TASKS <= i {
+    let Some(i) = slot_of(&k, id) else {
         return k;
-    }
-    let mut next = k.tasks[i];
-    next.owned_mutex_count = one_less(next.owned_mutex_count);
-    k.tasks[i] = next;
+    };
+    k.tasks[i].owned_mutex_count = k.tasks[i].owned_mutex_count.saturating_sub(1);
     k
 }

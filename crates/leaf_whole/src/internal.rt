@@ -1,13 +1,17 @@
 // Whether a kernel is whole, and of what that is made. No calls.
-ghost use Rattle.std.specs.Prelude.{◌≡◌, true, ◌&&◌, ◌||◌, not, leb};
-ghost use Rattle.base.specs.Below.{all_below, count_below};
+ghost use Rattle.std.specs.Prelude.{◌≡◌, [], ◌∷◌, ◌++◌, map, true, ◌&&◌, ◌||◌, not, leb};
+ghost use Rattle.std.specs.List.{list_all, count_by};
+ghost use Rattle.std.specs.Option.{is_some};
 ghost use Rattle.kernel.specs.Control.{in_state, has_limit, object_fits, region_fits};
 ghost use Rattle.kernel.specs.Kernel.{charge_sum, arena_fits, is_occupied, region_whole, owned_whole, queues_whole, limit_whole, whole};
+ghost use Rattle.kernel.specs.Refusal.{number_of};
+ghost use Rattle.kernel.specs.Calls.{first_of, not_whole};
 
 use kernel::control::{StackRegion, TaskControl, TaskState};
-use kernel::scheduler::Kernel;
+use kernel::scheduler::{Kernel, Refusal};
 use kernel::wait_queue::WaitQueue;
 
+#[tactic(auto, unfolding(kernel::specs::Kernel::arena_fits))]
 pub fn arena_fits(words: usize) -> bool
     ensures { result ≡ arena_fits words }
 {
@@ -18,11 +22,11 @@ pub fn arena_fits(words: usize) -> bool
 pub fn region_fits(region: StackRegion, words: u32) -> bool
     ensures { result ≡ region_fits words region }
 {
-    let end = (region.start as u64) + (region.size as u64);
+    let end = u64::from(region.start) + u64::from(region.size);
     (region.start % StackRegion::WORD_SIZE == 0)
         & (region.size % StackRegion::WORD_SIZE == 0)
         & (StackRegion::MIN_SIZE <= region.size)
-        & (end <= (StackRegion::WORD_SIZE as u64) * (words as u64))
+        & (end <= u64::from(StackRegion::WORD_SIZE) * u64::from(words))
 }
 
 fn region_whole(t: TaskControl, words: u32) -> bool
@@ -43,105 +47,84 @@ fn limit_whole(t: TaskControl) -> bool
 fn is_occupied(k: Kernel, i: usize) -> bool
     ensures { result ≡ is_occupied k i }
 {
-    if Kernel::MAX_TASKS <= i {
-        return false;
-    }
-    k.tasks[i].occupied
+    k.tasks.get(i).is_some_and(|t| t.occupied)
 }
 
-// What one walk over the slots finds.
-#[derive(Clone, Copy)]
-struct Slots {
-    regions: bool,
-    owned: bool,
-    limits: bool,
-    occupied: usize,
-}
-
-fn slots_whole(k: Kernel) -> Slots
-    ensures { (result.regions ≡ all_below (region_whole k) 16) × (result.owned ≡ all_below (owned_whole k) 16) × (result.limits ≡ all_below (limit_whole k) 16) × (result.occupied ≡ count_below (is_occupied k) 16) }
+fn regions_whole(k: Kernel) -> bool
+    ensures { result ≡ list_all (λ t. not t.occupied || region_fits k.arena_words t.stack) k.tasks }
 {
     let words = k.arena_words;
-    let mut regions = true;
-    let mut owned = true;
-    let mut limits = true;
-    let mut occupied: usize = 0;
-    for i in 0..Kernel::MAX_TASKS {
-        let t = k.tasks[i];
-        regions = regions & region_whole(t, words);
-        owned = owned & (!t.occupied | (t.owned_mutex_count <= TaskControl::MAX_OWNED_MUTEXES));
-        limits = limits & limit_whole(t);
-        occupied = occupied + (t.occupied as usize);
-    }
-    Slots {
-        regions,
-        owned,
-        limits,
-        occupied,
-    }
+    k.tasks.iter().all(|t| region_whole(*t, words))
 }
 
-// The retired sum and the charges are taken off tick_count one after another, so that no sum is formed that could wrap.
-fn charges_whole(k: Kernel) -> bool
-    ensures { result ≡ leb (charge_sum k) k.tick_count }
+fn owned_whole(k: Kernel) -> bool
+    ensures { result ≡ list_all (λ t. not t.occupied || leb t.owned_mutex_count 4) k.tasks }
 {
-    if k.tick_count < k.retired_charge {
-        return false;
+    k.tasks.iter().all(|t| !t.occupied | (t.owned_mutex_count <= TaskControl::MAX_OWNED_MUTEXES))
+}
+
+fn limits_whole(k: Kernel) -> bool
+    ensures { result ≡ list_all (λ t. not (t.occupied && has_limit t) || (in_state TaskState.Blocked t && object_fits t.limit_object)) k.tasks }
+{
+    k.tasks.iter().all(|t| limit_whole(*t))
+}
+
+fn occupied(k: Kernel) -> usize
+    ensures { result ≡ count_by (λ t. t.occupied) k.tasks }
+{
+    k.tasks.iter().filter(|t| t.occupied).count()
+}
+
+// What is left of tick_count once the retired sum and the charges are taken off it, one after another, so that no sum is formed that could wrap; none where they are more.
+fn uncharged(k: Kernel) -> Option<u64>
+    ensures { is_some result ≡ leb (charge_sum k) k.tick_count }
+{
+    let mut left = k.tick_count.checked_sub(k.retired_charge)?;
+    for charge in k.charges {
+        left = left.checked_sub(charge)?;
     }
-    let mut left = k.tick_count - k.retired_charge;
-    for i in 0..Kernel::MAX_TASKS {
-        let charge = k.charges[i];
-        if left < charge {
-            return false;
-        }
-        left = left - charge;
-    }
-    true
+    Some(left)
 }
 
 fn queues_whole(k: Kernel) -> bool
-    ensures { result ≡ all_below (queues_whole k) 4 }
+    ensures { result ≡ list_all (λ q. leb q.len 8) (map (λ m. m.waiters) k.mutexes ++ map (λ s. s.waiters) k.semaphores ++ map (λ e. e.waiters) k.events) }
 {
-    let mut ok = true;
-    for i in 0..Kernel::OBJECTS {
-        let m = k.mutexes[i];
-        let s = k.semaphores[i];
-        let e = k.events[i];
-        ok = ok
-            & ((m.waiters.len <= WaitQueue::MAX_WAITERS)
-                & (s.waiters.len <= WaitQueue::MAX_WAITERS)
-                & (e.waiters.len <= WaitQueue::MAX_WAITERS));
-    }
-    ok
+    k.mutexes
+        .iter()
+        .map(|m| m.waiters)
+        .chain(k.semaphores.iter().map(|s| s.waiters))
+        .chain(k.events.iter().map(|e| e.waiters))
+        .all(|q| q.len <= WaitQueue::MAX_WAITERS)
 }
 
-fn looked_at(k: Kernel) -> bool
+fn is_whole(k: Kernel) -> bool
     ensures { result ≡ whole k }
 {
-    let words = k.arena_words as usize;
     let current = k.current.0;
-    let charges = charges_whole(k);
-    let slots = slots_whole(k);
-    arena_fits(words)
+    arena_fits(k.arena_words as usize)
         & (1 <= k.hz)
         & (current < Kernel::MAX_TASKS)
         & is_occupied(k, 0)
         & is_occupied(k, current)
-        & slots.regions
+        & regions_whole(k)
         & queues_whole(k)
-        & (k.task_count as usize == slots.occupied)
-        & slots.owned
-        & charges
-        & slots.limits
+        & (k.task_count as usize == occupied(k))
+        & owned_whole(k)
+        & uncharged(k).is_some()
+        & limits_whole(k)
 }
 
 // Where `known` is true the caller knows that the kernel is whole, and it is not looked at.
-pub fn is_whole(k: Kernel, known: bool) -> bool
-    requires { (not known || whole k) ≡ true }
-    ensures { result ≡ whole k }
+#[tactic(auto, using(base::proofs::Choices::taken, base::proofs::Choices::left, base::proofs::Choices::implied))]
+pub fn check(k: &Kernel, known: bool) -> Result<(), Refusal>
+    requires { (not known || whole k.now) ≡ true }
+    ensures { number_of result ≡ first_of (not_whole k.now ∷ []) }
 {
     if known {
-        return true;
+        return Ok(());
     }
-    looked_at(k)
+    if !is_whole(*k) {
+        return Err(Refusal::NotWhole);
+    }
+    Ok(())
 }

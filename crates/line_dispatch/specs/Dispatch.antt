@@ -1,5 +1,5 @@
 -- What a frame asks for, and what is answered (01, "Program `turns`"; README, "The operations").
-use Rattle.std.specs.Prelude.{ℕ, ◌-◌, ◌*◌, ◌/◌, ◌%◌, ◌^◌, min, List, [], eqb, ltb, ℤ, pos, negsuc, length, set, replicate}
+use Rattle.std.specs.Prelude.{ℕ, ◌-◌, ◌*◌, ◌/◌, ◌%◌, ◌^◌, min, List, [], eqb, ltb, ℤ, pos, negsuc, length, set, replicate, Option, Some, None}
 use Rattle.base.specs.Choice.{if◌then◌otherwise◌}
 use Rattle.kernel.specs.declared.control.Priority.{Priority}
 use Rattle.kernel.specs.declared.control.StackRegion.{StackRegion}
@@ -12,7 +12,7 @@ use Rattle.kernel.specs.Control.{paint}
 use Rattle.kernel.specs.Timer.{ms_to_ticks}
 use Rattle.kernel.specs.Calls.{Call, add, start, tick, switch, current_id, status, block, sleep, wake, exit, wait, reap, reap_one, result, lock, try_lock, unlock, acquire, acquire_within, try_acquire, release, event_wait, event_wait_within, signal, list, ticks_to_ms, number, accepted, refused, step, add_words, list_records, init_number, init, init_words}
 use Rattle.line_frame.specs.declared.Operation.{Operation}
-use Rattle.line_frame.specs.declared.Operation.TheVariants.{Unknown, Add, Start, Tick, Switch, Exit, Wait, Reap, Sleep, Wake, Lock, Unlock, TryLock, Acquire, TryAcquire, Release, EventWait, Signal, Status, Block, ReapOne, AcquireWithin, EventWaitWithin, TicksToMs, CurrentId, Result, Word, Init}
+use Rattle.line_frame.specs.declared.Operation.TheVariants.{Add, Start, Tick, Switch, Exit, Wait, Reap, Sleep, Wake, Lock, Unlock, TryLock, Acquire, TryAcquire, Release, EventWait, Signal, Status, Block, ReapOne, AcquireWithin, EventWaitWithin, TicksToMs, CurrentId, Result, Word, Init}
 use Rattle.line_frame.specs.declared.Frame.{Frame}
 use Rattle.call_list.specs.Records.{blank_info}
 use Rattle.line_records.specs.RecordsText.{list_text}
@@ -54,7 +54,6 @@ ticks_of k y = y * 2 ^ min k 32
 
 -- by an operation with operands k and y, on a kernel with that hz and with that arena lent
 abbrev pub request_of : ℕ → List ℕ → Operation → ℕ → ℕ → Request
-request_of hz arena Unknown k y = none
 request_of hz arena Add k y = adding (record { 0 = k }) (region_of y)
 request_of hz arena Start k y = call start
 request_of hz arena Tick k y = call tick
@@ -84,9 +83,10 @@ request_of hz arena Result k y = call (result (id_of y) (signed_byte k))
 request_of hz arena Word k y = word y (word_of k)
 request_of hz arena Init k y = fresh y
 
--- by a frame
-abbrev pub request_in : Kernel → List ℕ → Frame → Request
-request_in k arena f = request_of k.hz arena f.operation f.k f.y
+-- by a line's frame, if it has one
+abbrev pub request_in : Kernel → List ℕ → Option Frame → Request
+request_in k arena None = none
+request_in k arena (Some f) = request_of k.hz arena f.operation f.k f.y
 
 -- ---- the answer, with the kernel after it
 
@@ -111,7 +111,7 @@ answered k arena (listing room) = list_answer k arena room
 answered k arena (word at w) = accepted Nothing k
 answered k arena (fresh hz) = fresh_for k hz (length arena)
 
-unfoldable pub answer_to : Kernel → List ℕ → Frame → Answer
+unfoldable pub answer_to : Kernel → List ℕ → Option Frame → Answer
 answer_to k arena f = answered k arena (request_in k arena f)
 
 -- ---- the arena's words after it
@@ -124,7 +124,7 @@ words_of k arena (listing room) = arena
 words_of k arena (word at w) = set arena at w
 words_of k arena (fresh hz) = init_words hz arena
 
-unfoldable pub words_after : Kernel → List ℕ → Frame → List ℕ
+unfoldable pub words_after : Kernel → List ℕ → Option Frame → List ℕ
 words_after k arena f = words_of k arena (request_in k arena f)
 
 -- ---- what `tables` adds to the answer's digits
@@ -143,5 +143,5 @@ added_by k arena (listing room) = list_adds k arena room
 added_by k arena (word at w) = []
 added_by k arena (fresh hz) = []
 
-unfoldable pub added_to : Kernel → List ℕ → Frame → List ℕ
+unfoldable pub added_to : Kernel → List ℕ → Option Frame → List ℕ
 added_to k arena f = added_by k arena (request_in k arena f)

@@ -1,16 +1,17 @@
 // A frame played on a kernel. Where `known` is true the caller knows that the kernel is whole, so it is not looked at again.
-ghost use Rattle.std.specs.Prelude.{◌≡◌, true, ◌||◌, not, ◌+◌, ◌≤◌, eqb, length, set};
+ghost use Rattle.std.specs.Prelude.{◌≡◌, true, ◌||◌, not, ◌+◌, ◌≤◌, eqb, length, set, Some};
 ghost use Rattle.base.specs.Choice.{if◌then◌otherwise◌};
 ghost use Rattle.kernel.specs.Kernel.{whole};
 ghost use Rattle.kernel.specs.Calls;
-ghost use Rattle.kernel.specs.Calls.{current_id, acquire_within, event_wait_within, ticks_to_ms, step, init_words};
-ghost use Rattle.line_text.specs.Text.{Writes};
+ghost use Rattle.kernel.specs.Calls.{refused, current_id, acquire_within, event_wait_within, ticks_to_ms, step, init_words};
+ghost use Rattle.line_text.specs.Text.{Room, Puts};
 ghost use Rattle.line_dispatch.specs.Dispatch.{id_of, signed_byte, word_of, ticks_of, fresh_for, list_answer, list_adds, answer_to, words_after, added_to};
 
 use kernel::control::{Priority, StackRegion, TaskControl, TaskId};
 use kernel::scheduler::{Answer, Kernel, Value};
 use leaf_table::internal::answer;
 use line_frame::{Frame, Operation};
+use line_text::Text;
 
 // What stands for the number where a line asks for no call.
 const NO_CALL: u8 = 255;
@@ -46,70 +47,57 @@ fn init(k: Kernel, hz: u32, arena: &mut [u32]) -> Answer
 {
     let a = call_init::init(hz, arena);
     if a.number != 0 {
-        return answer::refused(a.number, k);
+        return Answer {
+            number: a.number,
+            value: Value::Nothing,
+            kernel: k,
+        };
     }
     a
 }
 
 // A list call on that many records; what it adds to its answer is written into `out`.
-fn list(k: Kernel, room: usize, arena: &[u32], out: &mut [u8], at: &mut usize) -> Answer
-    requires { at.old + 1681 ≤ length out.old }
-    ensures value { (result ≡ list_answer k arena.now room) × Writes out.old at.old (list_adds k arena.now room) out.new at.new }
-    ensures short { at.new ≤ at.old + 1681 }
+#[inline(never)]
+fn list(k: Kernel, room: usize, arena: &[u32], out: &mut Text) -> Answer
+    requires { Room 1681 out.old }
+    ensures { (result ≡ list_answer k arena.now room) × Puts 1681 out.old (list_adds k arena.now room) out.new }
 {
     let listed = call_list::list_up_to(k, arena, room);
     let answer = listed.answer;
     if answer.number == 0 {
-        let records = listed.records;
-        *at = line_records::internal::put_list(out, *at, records, k.task_count as usize);
+        let records = &listed.records[..k.task_count as usize];
+        line_records::internal::put_list(out, records);
     }
     answer
 }
 
-// The calls that `turns` has not: 0 current id, 1 result, 2 acquire with a limit, 3 event wait with a limit, 4 milliseconds from ticks.
-fn other(k: Kernel, which: u8, b: u8, y: u32) -> Answer
-    ensures { result ≡ step k (if eqb which 0 then current_id otherwise if eqb which 1 then Calls.result (id_of y) (signed_byte b) otherwise if eqb which 2 then acquire_within b y otherwise if eqb which 3 then event_wait_within b y otherwise ticks_to_ms (ticks_of b y)) }
+// Of y × 2^k ticks. Its division stays out of the function that start and switch are taken into.
+#[inline(never)]
+fn ticks_to_ms(kernel: Kernel, k: u8, y: u32) -> Answer
+    ensures { result ≡ step kernel (ticks_to_ms (ticks_of k y)) }
 {
-    let id = TaskId(y);
-    let object = b as usize;
-    let ticks = y as u64;
-    if which == 0 {
-        return call_status::current_task_id(k);
-    }
-    if which == 1 {
-        return call_wake::set_syscall_result(k, id, signed(b));
-    }
-    if which == 2 {
-        return call_acquire::acquire_within(k, object, ticks);
-    }
-    if which == 3 {
-        return call_event_wait::wait_within(k, object, ticks);
-    }
-    // Called from two places, which keeps its division out of the functions that start and switch are taken into.
-    if b < 32 {
-        return call_timer::ticks_to_ms(k, ticks << b);
-    }
-    call_timer::ticks_to_ms(k, ticks << 32)
+    call_timer::ticks_to_ms(kernel, u64::from(y) << k.min(32))
 }
 
-// What the line adds to its answer is written into `out`, and `at` moves behind it.
-pub fn dispatch(
-    k: Kernel,
-    known: bool,
-    f: Frame,
-    arena: &mut [u32],
-    out: &mut [u8],
-    at: &mut usize,
-) -> Answer
-    requires { ((not known || whole k) ≡ true) × (at.old + 1681 ≤ length out.old) }
-    ensures value { (result ≡ answer_to k arena.old f) × (arena.new ≡ words_after k arena.old f) × Writes out.old at.old (added_to k arena.old f) out.new at.new }
-    ensures short { at.new ≤ at.old + 1681 }
+// What is answered to a line that is none of the notation.
+pub fn no_call(k: Kernel) -> Answer
+    ensures { result ≡ refused 0xff k }
 {
-    let operation = f.operation;
+    Answer {
+        number: NO_CALL,
+        value: Value::Nothing,
+        kernel: k,
+    }
+}
+
+// What the line adds to its answer is put into `out`.
+pub fn dispatch(k: Kernel, known: bool, f: Frame, arena: &mut [u32], out: &mut Text) -> Answer
+    requires { ((not known || whole k) ≡ true) × Room 1681 out.old }
+    ensures { (result ≡ answer_to k arena.old (Some f)) × (arena.new ≡ words_after k arena.old (Some f)) × Puts 1681 out.old (added_to k arena.old (Some f)) out.new }
+{
     let id = TaskId(f.y);
     let object = f.k as usize;
-    match operation {
-        Operation::Unknown => answer::refused(NO_CALL, k),
+    match f.operation {
         Operation::Add => {
             let priority = Priority(f.k);
             let region = StackRegion {
@@ -140,38 +128,16 @@ pub fn dispatch(
         Operation::Status => call_status::internal::set_current_task_status(k, known, f.k),
         Operation::Block => call_status::internal::block_current_task(k, known),
         Operation::ReapOne => call_reap::internal::reap_one(k, known),
-        // Called from two places or more, `list` and `other` stay functions of their own; taken into this one they would make each of the calls above slower. So would an answer of `other` without a name.
-        Operation::List => {
-            if object < Kernel::MAX_TASKS {
-                list(k, object, arena, out, at)
-            } else {
-                list(k, Kernel::MAX_TASKS, arena, out, at)
-            }
-        },
-        Operation::CurrentId => {
-            let answer = other(k, 0, f.k, f.y);
-            answer
-        },
-        Operation::Result => {
-            let answer = other(k, 1, f.k, f.y);
-            answer
-        },
+        Operation::List => list(k, object, arena, out),
+        Operation::CurrentId => call_status::current_task_id(k),
+        Operation::Result => call_wake::set_syscall_result(k, id, signed(f.k)),
         Operation::Word => {
             set_word(arena, f.y as usize, word_of(f.k));
             answer::accepted(Value::Nothing, k)
         },
         Operation::Init => init(k, f.y, arena),
-        Operation::AcquireWithin => {
-            let answer = other(k, 2, f.k, f.y);
-            answer
-        },
-        Operation::EventWaitWithin => {
-            let answer = other(k, 3, f.k, f.y);
-            answer
-        },
-        Operation::TicksToMs => {
-            let answer = other(k, 4, f.k, f.y);
-            answer
-        },
+        Operation::AcquireWithin => { call_acquire::acquire_within(k, object, u64::from(f.y)) },
+        Operation::EventWaitWithin => { call_event_wait::wait_within(k, object, u64::from(f.y)) },
+        Operation::TicksToMs => ticks_to_ms(k, f.k, f.y),
     }
 }

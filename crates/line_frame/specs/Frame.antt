@@ -1,8 +1,9 @@
 -- A line of the notation of `turns` or `tables`, and the frame that it writes (01, "Program `turns`"; README, "The operations").
-use Rattle.std.specs.Prelude.{ℕ, ◌+◌, ◌-◌, ◌*◌, Bool, ◌&&◌, ◌||◌, not, List, [], ◌∷◌, eqb, leb, ltb, get_or, set, replicate}
+use Rattle.std.specs.Prelude.{ℕ, ◌+◌, ◌-◌, ◌*◌, Bool, ◌&&◌, ◌||◌, not, List, [], ◌∷◌, ◌++◌, map, eqb, leb, ltb, get_or, set, replicate, Option, Some, None, option_map, option_and_then}
+use Rattle.std.specs.Option.{option_zip}
 use Rattle.base.specs.Choice.{if◌then◌otherwise◌, every}
 use Rattle.line_frame.specs.declared.Operation.{Operation}
-use Rattle.line_frame.specs.declared.Operation.TheVariants.{Unknown, Add, Start, Tick, Switch, Exit, Wait, Reap, Sleep, Wake, Lock, Unlock, TryLock, Acquire, TryAcquire, Release, EventWait, Signal, Status, Block, ReapOne, AcquireWithin, EventWaitWithin, TicksToMs, CurrentId, Result, Word, Init}
+use Rattle.line_frame.specs.declared.Operation.TheVariants.{Add, Start, Tick, Switch, Exit, Wait, Reap, Sleep, Wake, Lock, Unlock, TryLock, Acquire, TryAcquire, Release, EventWait, Signal, Status, Block, ReapOne, AcquireWithin, EventWaitWithin, TicksToMs, CurrentId, Result, Word, Init}
 use Rattle.line_frame.specs.declared.Frame.{Frame}
 use Rattle.line_frame.specs.declared.Line.{Line}
 
@@ -19,34 +20,41 @@ lengthened l b =
 
 -- ---- its digits
 
--- what a lowercase hex digit stands for; 16 where the byte is none
-unfoldable pub digit : ℕ → ℕ
+-- what a lowercase hex digit stands for
+unfoldable pub digit : ℕ → Option ℕ
 digit b =
-    if leb 48 b && leb b 57 then b - 48
-    otherwise if leb 97 b && leb b 102 then b - 87
-    otherwise 16
+    if leb 48 b && leb b 57 then Some (b - 48)
+    otherwise if leb 97 b && leb b 102 then Some (b - 97 + 10)
+    otherwise None
 
--- the byte that two digits write, high first; 256 where one of them is none
-unfoldable pub byte_of : ℕ → ℕ → ℕ
-byte_of high low = if ltb (digit high) 16 && ltb (digit low) 16 then 16 * digit high + digit low otherwise 256
+-- the byte that two digits write, high first
+unfoldable pub byte_of : ℕ → ℕ → Option ℕ
+byte_of high low = option_map (λ d. 16 * d.0 + d.1) (option_zip (digit high) (digit low))
 
 -- byte i of the six
-abbrev pub byte_at : Line → ℕ → ℕ
+abbrev pub byte_at : Line → ℕ → Option ℕ
 byte_at l i = byte_of (get_or l.bytes (2 * i) 0) (get_or l.bytes (2 * i + 1) 0)
 
--- twelve bytes, all of them digits
-abbrev pub is_hex : Line → Bool
-is_hex l = every (eqb l.len 12 ∷ ltb (byte_at l 0) 256 ∷ ltb (byte_at l 1) 256 ∷ ltb (byte_at l 2) 256 ∷ ltb (byte_at l 3) 256 ∷ ltb (byte_at l 4) 256 ∷ ltb (byte_at l 5) 256 ∷ [])
+-- all of them, where each is there
+abbrev pub all_of : List (Option ℕ) → Option (List ℕ)
+all_of [] = Some []
+all_of (o ∷ os) = option_map (λ p. p.0 ∷ p.1) (option_zip o (all_of os))
+
+-- the six, of twelve digits and no other line
+unfoldable pub written : Line → Option (List ℕ)
+written l = if eqb l.len 12 then all_of (map (byte_at l) (0 ∷ 1 ∷ 2 ∷ 3 ∷ 4 ∷ 5 ∷ [])) otherwise None
 
 -- ---- its operation and its operands
 
 -- in the order of their numbers, from 00, which is none; so are 17, 19 and 1a
-abbrev pub operations : List Operation
-operations = Unknown ∷ Add ∷ Start ∷ Tick ∷ Switch ∷ Exit ∷ Wait ∷ Reap ∷ Sleep ∷ Wake ∷ Lock ∷ Unlock ∷ TryLock ∷ Acquire ∷ TryAcquire ∷ Release ∷ EventWait ∷ Signal ∷ Status ∷ Block ∷ ReapOne ∷ AcquireWithin ∷ EventWaitWithin ∷ Unknown ∷ TicksToMs ∷ Unknown ∷ Unknown ∷ Operation.List ∷ CurrentId ∷ Result ∷ Word ∷ Init ∷ []
+abbrev pub operations : List (Option Operation)
+operations =
+    None ∷ map Some (Add ∷ Start ∷ Tick ∷ Switch ∷ Exit ∷ Wait ∷ Reap ∷ Sleep ∷ Wake ∷ Lock ∷ Unlock ∷ TryLock ∷ Acquire ∷ TryAcquire ∷ Release ∷ EventWait ∷ Signal ∷ Status ∷ Block ∷ ReapOne ∷ AcquireWithin ∷ EventWaitWithin ∷ [])
+    ++ None ∷ Some TicksToMs ∷ None ∷ None ∷ map Some (Operation.List ∷ CurrentId ∷ Result ∷ Word ∷ Init ∷ [])
 
 -- `turns` has those up to 14
-unfoldable pub operation_of : Bool → ℕ → Operation
-operation_of tables n = if tables || leb n 0x14 then get_or operations n Unknown otherwise Unknown
+unfoldable pub operation_of : Bool → ℕ → Option Operation
+operation_of tables n = if tables || leb n 0x14 then get_or operations n None otherwise None
 
 -- add, the calls on objects and status; 15 and 16, with a limit; 18; list, result and word
 abbrev pub uses_k : ℕ → Bool
@@ -56,12 +64,9 @@ uses_k operation = eqb operation 0x01 || (leb 0x0a operation && leb operation 0x
 abbrev pub uses_y : ℕ → Bool
 uses_y operation = eqb operation 0x01 || eqb operation 0x04 || (leb 0x06 operation && leb operation 0x09) || eqb operation 0x15 || eqb operation 0x16 || eqb operation 0x18 || (leb 0x1d operation && leb operation 0x1f)
 
-abbrev pub k_of : Line → ℕ
-k_of l = byte_at l 1
-
 -- four bytes, high first
-abbrev pub y_of : Line → ℕ
-y_of l = ((byte_at l 2 * 256 + byte_at l 3) * 256 + byte_at l 4) * 256 + byte_at l 5
+abbrev pub y_of : List ℕ → ℕ
+y_of bytes = ((get_or bytes 2 0 * 256 + get_or bytes 3 0) * 256 + get_or bytes 4 0) * 256 + get_or bytes 5 0
 
 -- an operand that the operation does not use is 0
 unfoldable pub k_fits : ℕ → ℕ → Bool
@@ -78,13 +83,15 @@ in_range operation k y = (not (eqb operation 0x18) || leb k 32) && (not (eqb ope
 unfoldable pub operands_fit : ℕ → ℕ → ℕ → Bool
 operands_fit operation k y = every (k_fits operation k ∷ y_fits operation y ∷ in_range operation k y ∷ [])
 
--- what stands for a line that is no frame
-abbrev pub malformed : Frame
-malformed = record { operation = Unknown; k = 0; y = 0 }
+-- operation, k, y; malformed with an unused operand above 0, as 18 or 1e out of range, and where the number is no operation's
+unfoldable pub framed : Bool → List ℕ → Option Frame
+framed tables bytes =
+    let number = get_or bytes 0 0 in
+    let k = get_or bytes 1 0 in
+    let y = y_of bytes in
+    if operands_fit number k y then option_map (λ o. record { operation = o; k = k; y = y }) (operation_of tables number)
+    otherwise None
 
--- 12 lowercase hex digits: operation, k, y; any other line is malformed, one with an unused operand above 0 too, and 18 or 1e out of range
-unfoldable pub frame_of : Bool → Line → Frame
-frame_of tables l =
-    if not (is_hex l) then malformed
-    otherwise if not (operands_fit (byte_at l 0) (k_of l) (y_of l)) then malformed
-    otherwise record { operation = operation_of tables (byte_at l 0); k = k_of l; y = y_of l }
+-- 12 lowercase hex digits; any other line is malformed
+unfoldable pub frame_of : Bool → Line → Option Frame
+frame_of tables l = option_and_then (framed tables) (written l)

@@ -1,21 +1,20 @@
 -- The text of the first records goes by those alone.
-use Prim.Native.Nat.{ℕ, zero, suc, ◌<◌}
+use Prim.Native.Nat.{ℕ, ◌<◌, ◌≤◌}
 use native.Mathlib.Omega.{arith}
-use mathlib.Core.Path.{◌≡◌, refl, ap}
-use mathlib.Core.Bool.{true}
+use mathlib.Core.Path.{◌≡◌, ap, ◌∙◌}
 use mathlib.Core.List.{List, ◌∷◌}
-use lib.ListN.{get_or}
-use Rattle.base.specs.Choice.{if◌then◌otherwise◌}
+use lib.ListN.{get_or, length, take, length-take}
+use Rattle.std.proofs.lemmas.List.{get_or-take}
 use Rattle.kernel.specs.declared.control.TaskInfo.{TaskInfo}
 use Rattle.call_list.specs.Records.{blank_info}
-use Rattle.line_objects.specs.ObjectsLine.{joined}
+use Rattle.line_objects.proofs.Joined.{joined_same}
 use Rattle.line_records.specs.RecordsText.{info_text, records_text, list_text}
-
-joined_same : (byte : ℕ) (t u : ℕ → List ℕ) (n : ℕ) → ((i : ℕ) → i < n → t i ≡ u i) → joined byte (λ _. true) t n ≡ joined byte (λ _. true) u n
-unfolding joined if◌then◌otherwise◌
-joined_same byte t u zero f = refl
-joined_same byte t u (suc n) f = rw (joined_same byte t u n (λ i h. f i (omega arith)), f n (omega arith)) refl
 
 pub same_first : (count : ℕ) (r s : List TaskInfo) → ((i : ℕ) → i < count → get_or r i blank_info ≡ get_or s i blank_info) → list_text count r ≡ list_text count s
 unfolding records_text
-same_first count r s f = ap (λ (t : List ℕ). 32 ∷ t) (joined_same 59 _ _ count (λ i h. ap info_text (f i h)))
+same_first count r s f = ap (λ (t : List ℕ). 32 ∷ t) (joined_same 59 count (λ i h. ap info_text (f i h)))
+
+pub first_alone : (count : ℕ) (r : List TaskInfo) → count ≤ length r → list_text (length (take count r)) (take count r) ≡ list_text count r
+first_alone count r h =
+    let long : length (take count r) ≡ count = omega (arith, length-take count r) in
+    ap (λ n. list_text n (take count r)) long ∙ same_first count (take count r) r (λ i g. get_or-take count r i blank_info g)

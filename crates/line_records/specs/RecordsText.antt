@@ -1,9 +1,8 @@
 -- The records of a list call as `tables` prints them, behind the digits of the answer.
-use Rattle.std.specs.Prelude.{ℕ, true, List, ◌∷◌, ◌++◌, get_or}
+use Rattle.std.specs.Prelude.{ℕ, true, List, ◌∷◌, ◌++◌, get_or, decimal}
 use Rattle.kernel.specs.declared.control.TaskInfo.{TaskInfo}
 use Rattle.kernel.specs.Control.{state_number}
 use Rattle.call_list.specs.Records.{blank_info}
-use Rattle.line_text.specs.Text.{decimal}
 use Rattle.line_objects.specs.ObjectsLine.{joined}
 use Rattle.line_table.specs.TableLine.{field}
 

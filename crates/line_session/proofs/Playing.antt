@@ -97,6 +97,10 @@ long_line l b h = left _ _ _ _ (le-ltb l.len 12 h) refl
 pub written_as : {out out' out'' text : List ℕ} {at m n : ℕ} → out'' ≡ out' → n ≡ m → Writes out at text out' m → Writes out at text out'' n
 written_as e e' w = record { bytes = e ∙ w.bytes; place = e' ∙ w.place }
 
+-- what is lent holds what was written into it
+pub played_into : {tables : Bool} {s : Session} {arena bytes arena' out out' out'' : List ℕ} {p : Played} → Plays tables s arena bytes arena' out out' p → out'' ≡ out' → Plays tables s arena bytes arena' out out'' p
+played_into played e = record { session = played.session; words = played.words; written = written_as e refl played.written }
+
 -- what is written from the start on stands there
 pub written_first : {out out' : List ℕ} {n : ℕ} (t : List ℕ) → Writes out 0 t out' n → n ≤ length out → take n out' ≡ t
 written_first {out} {out'} {n} t w fits =

@@ -1,5 +1,5 @@
 -- What the programs `turns` and `tables` make of their input, byte by byte (01, "Program `turns`"; README, "The operations" and "The table line").
-use Rattle.std.specs.Prelude.{ℕ, ◌≡◌, Bool, List, [], ◌∷◌, ◌++◌, eqb, replicate}
+use Rattle.std.specs.Prelude.{ℕ, ◌≡◌, Bool, List, [], ◌∷◌, ◌++◌, eqb, replicate, Option}
 use Rattle.base.specs.Choice.{if◌then◌otherwise◌}
 use Rattle.kernel.specs.declared.scheduler.Answer.{Answer}
 use Rattle.kernel.specs.Calls.{init, init_words}
@@ -19,7 +19,7 @@ opened words = record { kernel = (init 1000 words).kernel; line = empty_line }
 -- ---- a line
 
 -- the frame of the line so far, in the notation of `tables` or of `turns`
-abbrev pub frame_in : Bool → Session → Frame
+abbrev pub frame_in : Bool → Session → Option Frame
 frame_in tables s = frame_of tables s.line
 
 -- the answer to it

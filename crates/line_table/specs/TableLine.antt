@@ -1,26 +1,21 @@
 -- The line that `tables` prints for a kernel: the whole table in decimal.
-use Rattle.std.specs.Prelude.{ℕ, suc, Bool, true, List, [], ◌∷◌, ◌++◌, ℤ, pos, negsuc}
+use Rattle.std.specs.Prelude.{ℕ, Bool, true, List, [], ◌∷◌, ◌++◌, decimal}
+use Rattle.std.specs.Fmt.{signed_decimal}
 use Rattle.base.specs.Choice.{if◌then◌otherwise◌}
 use Rattle.kernel.specs.declared.control.LimitObject.{LimitObject}
 use Rattle.kernel.specs.declared.control.LimitObject.TheVariants.{NoLimit, AtSemaphore, AtEvent}
 use Rattle.kernel.specs.declared.control.TaskControl.{TaskControl}
 use Rattle.kernel.specs.declared.scheduler.Kernel.{Kernel}
 use Rattle.kernel.specs.Control.{state_number}
-use Rattle.kernel.specs.Kernel.{slot, charge, current, mutex, semaphore, event}
+use Rattle.kernel.specs.Kernel.{slot, charge, current}
 use Rattle.kernel.specs.Rank.{rank}
-use Rattle.line_text.specs.Text.{decimal}
-use Rattle.line_objects.specs.ObjectsLine.{joined, comma, flag, id_text, bar, mutex_text, semaphore_text, event_text, objects_text}
+use Rattle.line_objects.specs.ObjectsLine.{joined, comma, flag, id_field, bar, all_objects}
 
 -- ---- pieces
 
 -- a comma and the number
 abbrev pub field : ℕ → List ℕ
 field n = comma ++ decimal n
-
--- with a minus below 0
-unfoldable pub signed : ℤ → List ℕ
-signed (pos n) = decimal n
-signed (negsuc n) = 45 ∷ decimal (suc n)
 
 -- ---- slots
 
@@ -29,12 +24,12 @@ unfoldable pub slot_text : ℕ → TaskControl → List ℕ
 slot_text i t =
     decimal i ++ field t.id.0 ++ field (state_number t.state) ++ field t.priority.0
     ++ field t.wake_tick ++ field t.time_slice ++ field t.remaining_slice ++ field t.owned_mutex_count
-    ++ comma ++ id_text t.waiter ++ field t.stack.start ++ field t.stack.size ++ field t.sp
-    ++ comma ++ signed t.result
+    ++ id_field t.waiter ++ field t.stack.start ++ field t.stack.size ++ field t.sp
+    ++ comma ++ signed_decimal t.result
 
--- the occupied slots, joined by `;`
-unfoldable pub slots_text : Kernel → List ℕ
-slots_text k = joined 59 (λ i. (slot k i).occupied) (λ i. slot_text i (slot k i)) 16
+-- a text of each occupied slot, joined by `;`
+abbrev pub occupied_text : (ℕ → TaskControl → List ℕ) → Kernel → List ℕ
+occupied_text text k = joined 59 (λ i. (slot k i).occupied) (λ i. text i (slot k i)) 16
 
 -- ---- the rest of the scheduler
 
@@ -51,17 +46,13 @@ charges_text k = joined 44 (λ i. true) (λ i. decimal (charge k i)) 16
 
 -- kind, `s` or `e`, object and limit, each after a comma; without a limit `-` for each
 unfoldable pub kept_text : LimitObject → ℕ → List ℕ
-kept_text NoLimit tick = (44 ∷ 45 ∷ []) ++ (44 ∷ 45 ∷ []) ++ (44 ∷ 45 ∷ [])
-kept_text (AtSemaphore s) tick = (44 ∷ 115 ∷ []) ++ (field s ++ field tick)
-kept_text (AtEvent e) tick = (44 ∷ 101 ∷ []) ++ (field e ++ field tick)
+kept_text NoLimit tick = 44 ∷ 45 ∷ 44 ∷ 45 ∷ 44 ∷ 45 ∷ []
+kept_text (AtSemaphore s) tick = (44 ∷ 115 ∷ []) ++ field s ++ field tick
+kept_text (AtEvent e) tick = (44 ∷ 101 ∷ []) ++ field e ++ field tick
 
 -- slot, kind, object, limit, ended
 unfoldable pub limit_text : ℕ → TaskControl → List ℕ
 limit_text i t = decimal i ++ kept_text t.limit_object t.limit_tick ++ comma ++ flag t.limit_passed
-
--- the occupied slots, joined by `;`
-unfoldable pub limits_text : Kernel → List ℕ
-limits_text k = joined 59 (λ i. (slot k i).occupied) (λ i. limit_text i (slot k i)) 16
 
 -- ---- ranks
 
@@ -76,8 +67,5 @@ ranks_text k = joined 44 (λ i. true) (λ i. rank_text (slot k i).occupied (rank
 
 unfoldable pub table_line : Kernel → List ℕ
 table_line k =
-    slots_text k ++ bar ++ scheduler_text k
-    ++ bar ++ objects_text (λ i. mutex_text (mutex k i))
-    ++ bar ++ objects_text (λ i. semaphore_text (semaphore k i))
-    ++ bar ++ objects_text (λ i. event_text (event k i))
-    ++ bar ++ charges_text k ++ bar ++ limits_text k ++ bar ++ ranks_text k ++ bar ++ decimal k.retired_charge ++ (10 ∷ [])
+    occupied_text slot_text k ++ bar ++ scheduler_text k ++ bar ++ all_objects k ++ bar ++ charges_text k
+    ++ bar ++ occupied_text limit_text k ++ bar ++ ranks_text k ++ bar ++ decimal k.retired_charge ++ (10 ∷ [])

@@ -2,3 +2,10 @@
 #![tactic(auto)]
 
 pub mod internal;
+
+// A lent slice, and the place where the next byte of a text is written.
+#[derive(Drop)]
+pub struct Text<'a> {
+    pub out: &'a mut [u8],
+    pub at: usize,
+}

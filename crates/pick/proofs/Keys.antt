@@ -1,18 +1,21 @@
 -- A search of the keys is the pick: the slots of the smallest key below 256 are the best ones, and with no such key none is Ready.
-use Prim.Native.Nat.{ℕ, ◌+◌, ◌≤◌, ◌<◌, zero-le}
+use Prim.Native.Nat.{ℕ, zero, suc, ◌+◌, ◌≤◌, ◌<◌, zero-le, min}
 use native.Mathlib.Omega.{arith}
-use mathlib.Core.Path.{◌≡◌, refl, sym, ◌∙◌}
+use mathlib.Core.Path.{◌≡◌, refl, sym, subst}
 use mathlib.Core.Bool.{Bool, true, false, ◌&&◌, not}
 use mathlib.Core.List.{List}
 use lib.Dec.{eqb, ltb}
-use lib.ListN.{length, get_or, set, length-set}
+use lib.ListN.{get_or}
+use denote.Param.Members.{Mut, Called}
+use Rattle.std.specs.Array.{IsFromFnResult, IsFromFnResultFrom}
 use native.Mathlib.Nat.{le_refl}
-use borrow.Author.Tests.{lt-ltb, le-ltb, ltb-true, ltb-false, eqb-true, eq-eqb, ne_eqb}
+use native.Mathlib.Decide.{dec_lt}
+use borrow.Author.Tests.{lt-ltb, le-ltb, ltb-false, eqb-true, eq-eqb, ne_eqb}
 use borrow.Author.Count.{below_more}
 use Rattle.base.specs.Choice.{if◌then◌otherwise◌}
 use Rattle.base.specs.Below.{all_below, lowest_below}
-use Rattle.base.proofs.Choices.{and_right, same_test, either}
-use Rattle.base.proofs.Loops.{all_at, all_each, lowest_same, lowest_is, lowest_next, lowest_here, Upto, search_start, search_more, search_found, search_done, set_more}
+use Rattle.base.proofs.Choices.{and_right, same_test}
+use Rattle.base.proofs.Loops.{all_at, all_each, lowest_same, lowest_is, lowest_next, lowest_here, Upto, search_start, search_more, search_found, search_done}
 use Rattle.kernel.specs.Scheduler.{slot_after, is_best, pick}
 use Rattle.kernel.proofs.Pick.{around_lt, pick_same}
 use Rattle.pick.specs.Keys.{IsKey, IsLeast, key_distance, first_from}
@@ -21,18 +24,22 @@ use Rattle.pick.specs.Keys.{IsKey, IsLeast, key_distance, first_from}
 pub least_none : (keys : List ℕ) → IsLeast keys 0 256
 least_none keys = record { low = λ i h. absurd (omega arith); reached = λ h. absurd (omega arith) }
 
-pub least_more : (keys : List ℕ) (i best : ℕ) → IsLeast keys i best → IsLeast keys (i + 1) (if ltb (get_or keys i 0) best then get_or keys i 0 otherwise best)
+pub least_more : (keys : List ℕ) (i best : ℕ) → IsLeast keys i best → IsLeast keys (i + 1) (min best (get_or keys i 0))
 least_more keys i best l =
-    either (IsLeast keys (i + 1)) (ltb (get_or keys i 0) best)
-    (λ e. let h : get_or keys i 0 < best = ltb-true _ _ e in
-    record {
-      low = below_more (λ j. get_or keys i 0 ≤ get_or keys j 0) i (λ j g. omega (arith, l.low j g)) (le_refl _);
-      reached = λ _. lowest_here (λ j. eqb (get_or keys j 0) (get_or keys i 0)) i (eq-eqb (get_or keys i 0) (get_or keys i 0) refl);
-    })
-    (λ e. record {
-      low = below_more (λ j. best ≤ get_or keys j 0) i l.low (ltb-false _ _ e);
-      reached = λ h. lowest_next (λ j. eqb (get_or keys j 0) best) i (l.reached h);
-    })
+    elim (dec_lt (get_or keys i 0) best) [
+      | yes h ↦
+          let e : min best (get_or keys i 0) ≡ get_or keys i 0 = omega arith in
+          rw e record {
+            low = below_more (λ j. get_or keys i 0 ≤ get_or keys j 0) i (λ j g. omega (arith, l.low j g)) (le_refl _);
+            reached = λ _. lowest_here (λ j. eqb (get_or keys j 0) (get_or keys i 0)) i (eq-eqb (get_or keys i 0) (get_or keys i 0) refl);
+          }
+      | no h ↦
+          let e : min best (get_or keys i 0) ≡ best = omega arith in
+          rw e record {
+            low = below_more (λ j. best ≤ get_or keys j 0) i l.low (omega arith);
+            reached = λ g. lowest_next (λ j. eqb (get_or keys j 0) best) i (l.reached g);
+          }
+    ]
 
 module _ (keys : List ℕ) (best : ℕ) (least : IsLeast keys 16 best) where
   abbrev key_at : ℕ → ℕ
@@ -112,26 +119,23 @@ module _ (keys : List ℕ) (c best : ℕ) where
       let d : 16 ≡ key_distance keys c best = search_done _ 16 n u h in
       rw (← d)
 
--- ---- the keys, filled slot by slot
+-- ---- the keys, made slot by slot
 
-pub record Keyed (ready : ℕ → Bool) (rank : ℕ → ℕ) (keys : List ℕ) (n : ℕ) : Type 0 where
-  pub long : length keys ≡ 16
-  pub inside : n ≤ 16
-  pub each : (i : ℕ) → i < n → IsKey (ready i) (rank i) (get_or keys i 0)
+-- a closure that stays as it is, and whose results at each number have P
+module _ {F : Type 0} (g : Mut F (ℕ × Unit {0}) ℕ) (f : F) (P : ℕ → ℕ → Type 0) (makes : (i y : ℕ) (q : F) → Called g f (i, tt) y q → (q ≡ f) × P i y) where
+  made_from : (ys : List ℕ) (i n j : ℕ) (h : F) → h ≡ f → IsFromFnResultFrom g h ys i n → i ≤ j → j < i + n → P j (get_or ys j 0)
+  made_from ys i zero j h e m a b = absurd (omega arith)
+  made_from ys i (suc n) j h e m a b =
+      let call = makes i m.1 m.0 (subst (λ k. Called g k (i, tt) m.1 m.0) e m.3) in
+      elim (dec_lt i j) [
+        | yes l ↦ made_from ys (i + 1) n j m.0 call.0 m.4 (omega arith) (omega arith)
+        | no l ↦
+            let is : j ≡ i = omega arith in
+            rw (is, m.2.1 0) call.1
+      ]
 
-pub keyed_none : (ready : ℕ → Bool) (rank : ℕ → ℕ) (keys : List ℕ) → length keys ≡ 16 → Keyed ready rank keys 0
-keyed_none ready rank keys e = record { long = e; inside = zero-le; each = λ i h. absurd (omega arith) }
-
-pub keyed_more : (ready : ℕ → Bool) (rank : ℕ → ℕ) (keys : List ℕ) (i y : ℕ) → Keyed ready rank keys i → i < 16 → IsKey (ready i) (rank i) y → Keyed ready rank (set keys i y) (i + 1)
-keyed_more ready rank keys i y k h e =
-    record {
-      long = length-set keys i y ∙ k.long;
-      inside = omega arith;
-      each = set_more (λ j x. IsKey (ready j) (rank j) x) 0 keys i y (omega (arith, k.long)) k.each e;
-    }
-
-pub keyed_done : (ready : ℕ → Bool) (rank : ℕ → ℕ) (keys : List ℕ) (n : ℕ) → Keyed ready rank keys n → 16 ≤ n → (i : ℕ) → i < 16 → IsKey (ready i) (rank i) (get_or keys i 0)
-keyed_done ready rank keys n k h i g = k.each i (omega arith)
+  pub made : (ys : List ℕ) (n : ℕ) → IsFromFnResult g f ys n → (i : ℕ) → i < n → P i (get_or ys i 0)
+  made ys n m i h = made_from ys 0 n i f refl m.each zero-le (omega arith)
 
 -- a pick by the keys is the pick of the table
 pub keys_pick : (ready : ℕ → Bool) (rank : ℕ → ℕ) (keys : List ℕ) → ((i : ℕ) → i < 16 → IsKey (ready i) (rank i) (get_or keys i 0)) → (c : ℕ) → pick (λ i. ltb (get_or keys i 0) 256) (λ i. get_or keys i 0) c ≡ pick ready rank c

@@ -9,9 +9,10 @@ ghost use Rattle.kernel.specs.Scheduler.{pick, is_ready, next_task};
 ghost use Rattle.pick.specs.Keys.{IsKey};
 ghost use Rattle.pick.specs.Ranked.{Ranked};
 
-use crate::{NOT_READY, key, pick_key};
+use crate::{key, pick_key};
 use kernel::control::{SlotIndex, TaskControl};
 use kernel::scheduler::Kernel;
+use std::array;
 
 fn task_key(t: TaskControl) -> u16
     ensures { IsKey (holds_task Ready t) t.priority.0 result }
@@ -22,12 +23,7 @@ fn task_key(t: TaskControl) -> u16
 fn task_keys(k: Kernel) -> [u16; Kernel::MAX_TASKS]
     ensures { (i : ℕ) → i < 16 → IsKey (is_ready k i) (priority_of k i) (get_or result i 0) }
 {
-    let mut keys = [NOT_READY; Kernel::MAX_TASKS];
-    for i in 0..Kernel::MAX_TASKS {
-        let key = task_key(k.tasks[i]);
-        keys[i] = key;
-    }
-    keys
+    array::from_fn(|i| task_key(k.tasks[i]))
 }
 
 // The Ready slot of the smallest own number, the first of them from current + 1 cyclically; 0 where none is Ready.

@@ -1,14 +1,14 @@
 // The choice of the next task over bytes, which crate pick_c exports for C. Module `internal` has the same over the table.
 #![tactic(auto)]
 
-ghost use Rattle.std.specs.Prelude.{◌≡◌, ℕ, ◌<◌, eqb, ltb, length, get_or};
-ghost use Rattle.base.specs.Choice.{if◌then◌otherwise◌};
+ghost use Rattle.std.specs.Prelude.{◌≡◌, ℕ, ◌<◌, eqb, ltb, length, get_or, unwrap_or};
 ghost use Rattle.base.specs.Below.{any_below};
 ghost use Rattle.kernel.specs.Scheduler.{slot_after, pick};
 ghost use Rattle.kernel.specs.Calls.{pick_bytes};
 ghost use Rattle.pick.specs.Keys.{IsKey, IsLeast, first_from};
 
 use kernel::scheduler::Kernel;
+use std::array;
 
 pub mod internal;
 
@@ -27,18 +27,12 @@ fn key(ready: bool, number: u8) -> u16
     if ready { number as u16 } else { NOT_READY }
 }
 
-fn smaller(a: u16, b: u16) -> u16
-    ensures { result ≡ (if ltb a b then a otherwise b) }
-{
-    if a < b { a } else { b }
-}
-
 fn least(keys: [u16; Kernel::MAX_TASKS]) -> u16
     ensures { IsLeast keys 16 result }
 {
     let mut best = NOT_READY;
     for i in 0..Kernel::MAX_TASKS {
-        best = smaller(keys[i], best);
+        best = best.min(keys[i]);
     }
     best
 }
@@ -85,12 +79,7 @@ fn byte_keys(states: &[u8], priorities: &[u8]) -> [u16; Kernel::MAX_TASKS]
     requires { (length states.now ≡ 16) × (length priorities.now ≡ 16) }
     ensures { (i : ℕ) → i < 16 → IsKey (eqb (get_or states.now i 0) 0) (get_or priorities.now i 0) (get_or result i 0) }
 {
-    let mut keys = [NOT_READY; Kernel::MAX_TASKS];
-    for i in 0..Kernel::MAX_TASKS {
-        let key = key(states[i] == 0, priorities[i]);
-        keys[i] = key;
-    }
-    keys
+    array::from_fn(|i| key(states[i] == 0, priorities[i]))
 }
 
 // Whether one of the sixteen is no state's number, nor that of an empty slot.
@@ -98,29 +87,27 @@ fn any_unknown(states: &[u8]) -> bool
     requires { length states.now ≡ 16 }
     ensures { result ≡ any_below (λ i. ltb 6 (get_or states.now i 0)) 16 }
 {
-    let mut found = false;
-    for i in 0..Kernel::MAX_TASKS {
-        found = found | (EMPTY < states[i]);
+    states.iter().any(|s| EMPTY < *s)
+}
+
+// The slot picked; none for refusal 22.
+#[tactic(auto, using(base::proofs::Choices::taken, base::proofs::Choices::left, base::proofs::Choices::tests), unfolding(kernel::specs::Calls::pick_bytes))]
+fn picked(states: &[u8], priorities: &[u8], current: u8) -> Option<u8>
+    ensures { unwrap_or result 255 ≡ pick_bytes states.now priorities.now current }
+{
+    if states.len() != Kernel::MAX_TASKS || priorities.len() != Kernel::MAX_TASKS {
+        return None;
     }
-    found
+    if any_unknown(states) || Kernel::MAX_TASKS <= current as usize {
+        return None;
+    }
+    let keys = byte_keys(states, priorities);
+    Some(pick_key(keys, current as usize) as u8)
 }
 
 // The pick over 16 state bytes and 16 priority bytes; 255 stands for refusal 22.
 pub fn tibsulan_pick(states: &[u8], priorities: &[u8], current: u8) -> u8
     ensures { result ≡ pick_bytes states.now priorities.now current }
 {
-    if states.len() != Kernel::MAX_TASKS {
-        return REFUSED;
-    }
-    if priorities.len() != Kernel::MAX_TASKS {
-        return REFUSED;
-    }
-    if any_unknown(states) {
-        return REFUSED;
-    }
-    if Kernel::MAX_TASKS <= current as usize {
-        return REFUSED;
-    }
-    let keys = byte_keys(states, priorities);
-    pick_key(keys, current as usize) as u8
+    picked(states, priorities, current).unwrap_or(REFUSED)
 }

@@ -10,7 +10,7 @@ use lib.Seq.{sets-eq, drop-drop, take_all}
 use Rattle.base.proofs.Choices.{either}
 use Rattle.kernel.specs.declared.scheduler.Answer.{Answer}
 use Rattle.kernel.specs.Calls.{init_words}
-use Rattle.line_text.specs.Text.{Writes}
+use Rattle.line_text.specs.Text.{Writes, digits}
 use Rattle.line_text.proofs.Writing.{written_then, written_length, same_text}
 use Rattle.line_dispatch.specs.Dispatch.{added_to}
 use Rattle.line_session.specs.declared.Session.{Session}
@@ -22,6 +22,7 @@ use Rattle.play_list.specs.PlayList.{list_room}
 -- ---- how long the replies are
 
 reply_length : (a : Answer) (added : List ℕ) → length (reply false a added) ≡ 13
+unfolding digits
 reply_length a added = ap length (sym (answer_alone false a added refl))
 
 said_length : (s : Session) (arena : List ℕ) (b : ℕ) → length (said false s arena b) ≤ 13

@@ -17,10 +17,9 @@ fn play_all(list: &[u8], out: &mut [u8]) -> usize
     let mut arena = [0u32; Session::ARENA_WORDS];
     let opened = line_session::open(&mut arena);
     let played = line_session::internal::play(opened, false, list, &mut arena, out);
-    let n = played.len;
-    let session = played.session;
-    let finished = line_session::internal::finish(session, false, &mut arena, &mut out[n..]);
-    n + finished.len
+    let rest = &mut out[played.len..];
+    let finished = line_session::internal::finish(played.session, false, &mut arena, rest);
+    played.len + finished.len
 }
 
 // A whole list of lines from fresh, answered as `turns` answers it. The answers stand at the start of `out`; their length is

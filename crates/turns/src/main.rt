@@ -1,6 +1,8 @@
 // Plays the calls on standard input and prints an answer for each line, as document 01 has it.
 #![tactic(auto)]
 
+use line_program::Program;
+
 fn main(rt: HostRuntime) {
-    line_program::run(&rt, false);
+    Program::Turns.run(&rt);
 }

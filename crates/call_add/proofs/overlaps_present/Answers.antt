@@ -1,14 +1,10 @@
--- Each turn adds the test of one slot.
-use Rattle.base.proofs.Loops.{any_start, upto_any, any_done}
+-- What std's test says, by the slots' numbers.
+use Rattle.std.proofs.Common.{◌&&◌, rules}
+use Rattle.kernel.specs.Control.{blank_slot, regions_overlap}
 use Rattle.kernel.specs.Scheduler.{overlaps_present}
+use Rattle.base.proofs.Lists.{any_each_below}
 use Rattle.call_add.proofs.overlaps_present.Goals as goal
-
-pub loop-i-init : goal.loop-i-init
-loop-i-init c = any_start _ _
-
-pub loop-i-preserved : goal.loop-i-preserved
-loop-i-preserved c = upto_any _ _ _ _ _ c.loop-i.invariant c.loop-i-test.true c.overlaps-found.ensures
 
 pub returns : goal.returns
 unfolding overlaps_present
-returns c = any_done _ _ _ _ c.loop-i.invariant c.loop-i-test.false
+returns c = rw c.overlaps.ensures (any_each_below (λ t. t.occupied && regions_overlap c.args.region t.stack) c.args.k.now.tasks blank_slot 16 (search rules))

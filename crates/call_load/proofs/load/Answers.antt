@@ -1,36 +1,50 @@
--- Not whole, no such id, no tick since the start, and the share with its remainder.
-use Rattle.std.proofs.Common.{refl, sym, ◌∙◌, arith}
+-- Refused, and the share with its remainder.
+use Rattle.std.proofs.Common.{◌≡◌, ◌≤◌, ◌<◌, refl, arith}
+use borrow.Author.Tests.{ltb-true, eqb-false}
+use Rattle.base.proofs.Choices.{not_clear}
+use Rattle.kernel.specs.declared.control.TaskId.{TaskId}
+use Rattle.kernel.specs.declared.scheduler.Kernel.{Kernel}
+use Rattle.kernel.specs.Kernel.{charge, charge_sum, slot_of}
 use Rattle.kernel.specs.Calls
-use Rattle.kernel.specs.Calls.{value, effect}
+use Rattle.kernel.specs.Calls.{number, value, effect}
+use Rattle.kernel.proofs.Accepted.{accepted_at}
+use Rattle.kernel.proofs.Refusal.{accepted_number}
 use Rattle.kernel.proofs.Step.{step_refused, step_accepted}
-use Rattle.kernel.proofs.Load.{load_is, charge_within, load_not_whole, load_unknown, load_no_tick, load_accepted}
+use Rattle.kernel.proofs.Load.{load_is, charge_within}
 use Rattle.call_load.proofs.load.Goals as goal
 
-pub returns-then-not-is_whole : goal.returns-then-not-is_whole
-returns-then-not-is_whole c =
-    step_refused _ (Calls.load _) 1 _ (load_not_whole _ _ (sym c.if-not-is_whole.ensures)) (λ z. omega arith)
-    c.refused.ensures
+-- what the call asks for, where it is accepted: a slot, ticks, and no more of them its task's
+slot_found : (k : Kernel) (a : TaskId) → number k (Calls.load a) ≡ 0 → slot_of k a < 16
+slot_found k a e = ltb-true _ _ (not_clear _ (accepted_at k (Calls.load a) 0 refl e))
 
-pub returns-then-i-ge-MAX_TASKS : goal.returns-then-i-ge-MAX_TASKS
-returns-then-i-ge-MAX_TASKS c =
-    step_refused _ (Calls.load _) 8 _ (load_unknown _ _ (sym c.if-not-is_whole.ensures) (omega arith))
-    (λ z. omega arith) c.refused-then-i-ge-MAX_TASKS.ensures
+some_tick : (k : Kernel) (a : TaskId) → number k (Calls.load a) ≡ 0 → 0 < charge_sum k
+some_tick k a e = let n = eqb-false (charge_sum k) 0 (accepted_at k (Calls.load a) 1 refl e) in omega (arith, n)
 
-pub returns-then-ticks-eq0 : goal.returns-then-ticks-eq0
-returns-then-ticks-eq0 c =
-    let none = sym c.ticks_since_start-ticks.ensures ∙ c.if-ticks-eq0.true in
-    step_refused _ (Calls.load _) 24 _ (load_no_tick _ _ (sym c.if-not-is_whole.ensures) (omega arith) none)
-    (λ z. omega arith) c.refused-then-ticks-eq0.ensures
+charge_fits : (k : Kernel) (a : TaskId) → number k (Calls.load a) ≡ 0 → charge k (slot_of k a) ≤ charge_sum k
+charge_fits k a e = charge_within k (slot_of k a) (slot_found k a e)
+
+pub offset_bounds-k-i : goal.offset_bounds-k-i
+offset_bounds-k-i c =
+    let s = slot_found _ _ (accepted_number _ _ _ c.check_load.ensures.number c.in-Ok.is) in
+    omega (arith, s, c.in-Ok.ensures.found.0)
+
+pub bounds-k-i : goal.bounds-k-i
+bounds-k-i c =
+    let s = slot_found _ _ (accepted_number _ _ _ c.check_load.ensures.number c.in-Ok.is) in
+    rw c.in-Ok.ensures.found.0 s
 
 pub thousandfold-p-requires : goal.thousandfold-p-requires
 thousandfold-p-requires c =
-    (omega arith, rw c.ticks_since_start-ticks.ensures (charge_within c.args.k _ c.if-i-ge-MAX_TASKS.false))
+    let e = accepted_number _ _ _ c.check_load.ensures.number c.in-Ok.is in
+    rw (c.in-Ok.ensures.found.0, c.in-Ok.ensures.found.1) (some_tick _ _ e, charge_fits _ _ e)
 
-pub returns : goal.returns
+pub returns-in-Err : goal.returns-in-Err
+returns-in-Err c = step_refused _ (Calls.load _) _ _ _ c.check_load.ensures.number c.in-Err.is c.refused.ensures
+
+pub returns-in-Ok : goal.returns-in-Ok
 unfolding value effect
-returns c =
-    let most = charge_within c.args.k _ c.if-i-ge-MAX_TASKS.false in
-    let found = load_is most (rw c.ticks_since_start-ticks.ensures at c.thousandfold-p.ensures) in
-    let number = load_accepted _ _ (sym c.if-not-is_whole.ensures) (omega arith) (omega arith) in
-    step_accepted _ (Calls.load _) 0 _ number refl
-    (rw (c.accepted.ensures, ← c.slot_of-i.ensures, found.0, found.1) refl)
+returns-in-Ok c =
+    let e = accepted_number _ _ _ c.check_load.ensures.number c.in-Ok.is in
+    let found = load_is (charge_fits _ _ e) (rw (c.in-Ok.ensures.found.0, c.in-Ok.ensures.found.1) at c.thousandfold-p.ensures) in
+    step_accepted _ (Calls.load _) _ _ _ c.check_load.ensures.number c.in-Ok.is
+    (rw (c.accepted.ensures, found.0, found.1) refl)

@@ -8,7 +8,7 @@ use Rattle.call_load.proofs.ticks_since_start.Goals as goal
 pub overflow_add-sum : goal.overflow_add-sum
 overflow_add-sum c =
     let k = c.args.k in
-    let i = c.loop-i.i in
+    let i = c.loop-charge.charge-index in
     let more : i + 1 ≤ 16 = omega arith in
     let clock : k.tick_count < 2 ^ 64 = search rules in
     let so_far = sum_le (charge k) (i + 1) 16 more in

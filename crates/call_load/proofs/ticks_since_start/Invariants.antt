@@ -4,5 +4,5 @@ use Rattle.base.specs.Below.{sum_below}
 use Rattle.kernel.specs.Kernel.{charge}
 use Rattle.call_load.proofs.ticks_since_start.Given as goal
 
-abbrev pub invariant-loop-i : goal.invariant-loop-i
-invariant-loop-i l = l.sum ≡ sum_below (charge l.k) l.i + l.k.retired_charge
+abbrev pub invariant-loop-charge : goal.invariant-loop-charge
+invariant-loop-charge l = l.sum ≡ sum_below (charge l.fn.k) l.charge-index + l.fn.k.retired_charge

@@ -1,13 +1,14 @@
--- What the test says at each slot starts the search, and ends it there.
-use Rattle.std.proofs.Common.{rules}
-use Rattle.base.proofs.Choices.{tests}
-use Rattle.base.proofs.Loops.{searching}
+-- What the test says of each slot that `find` came to.
+use Rattle.std.proofs.Common.{◌≡◌, true, false, rules}
+use Rattle.std.proofs.lemmas.Iterator.{first_from_Range}
 use Rattle.kernel.specs.Scheduler.{reapable_slot}
+use Rattle.call_reap.proofs.Laws.{can_be_reaped, lowest_found}
 use Rattle.call_reap.proofs.reapable.Goals as goal
 
-pub loop-i-init : goal.loop-i-init
-loop-i-init c = search (searching, rules)
-
-pub returns-then-is_reapable : goal.returns-then-is_reapable
+pub returns-clause-place : goal.returns-clause-place
 unfolding reapable_slot
-returns-then-is_reapable c = search (searching, tests, rules)
+returns-clause-place c =
+    let p = can_be_reaped c.args.k in
+    lowest_found p 16 _ (first_from_Range _ _ _ _ (λ i. p i ≡ true) (λ i. p i ≡ false) c.find.ensures.ran
+    (λ i q h. search rules)
+    (λ i q h. (search rules, search rules)))

@@ -33,5 +33,4 @@ turned k sp saved full next s a b c d = rw (d, c, slot_is s _ b, a)
 
 pub returns : goal.returns
 returns c =
-    c.accepted.ensures
-    ∙ turned _ _ _ _ _ _ c.context_saved-saved.ensures c.picked-slot.ensures.0 c.reloaded.ensures c.entered-next.ensures
+    c.accepted.ensures ∙ turned _ _ _ _ _ _ c.context_saved.ensures c.picked-slot.ensures.0 c.reloaded.ensures c.entered.ensures

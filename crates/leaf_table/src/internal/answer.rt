@@ -1,27 +1,20 @@
-// A chain of checks, the two kinds of answer, and the answer of a wake.
-ghost use Rattle.std.specs.Prelude.{ltb, ◌≡◌};
+// The two kinds of answer, and the answer of a wake.
+ghost use Rattle.std.specs.Prelude.{◌≡◌, ltb, unwrap_or};
 ghost use Rattle.base.specs.Choice.{if◌then◌otherwise◌};
 ghost use Rattle.kernel.specs.Control.{entered};
 ghost use Rattle.kernel.specs.Kernel.{at};
+ghost use Rattle.kernel.specs.Refusal.{refusal_number};
 ghost use Rattle.kernel.specs.Calls.{refused, accepted};
 
 use kernel::control::TaskState;
-use kernel::scheduler::{Answer, Kernel, Value};
+use kernel::scheduler::{Answer, Kernel, Refusal, Value};
 
-// The number of a check that refuses, else what the checks after it say.
-pub fn refuse_if(bad: bool, number: u8, rest: u8) -> u8
-    ensures { result ≡ (if bad then number otherwise rest) }
+pub fn refused(refusal: Refusal, kernel: Kernel) -> Answer
+    ensures { result ≡ refused (refusal_number refusal) kernel }
 {
-    if bad { number } else { rest }
-}
-
-pub fn refused(number: u8, kernel: Kernel) -> Answer
-    ensures { result ≡ refused number kernel }
-{
-    let value = Value::Nothing;
     Answer {
-        number,
-        value,
+        number: refusal.number(),
+        value: Value::Nothing,
         kernel,
     }
 }
@@ -36,15 +29,14 @@ pub fn accepted(value: Value, kernel: Kernel) -> Answer
     }
 }
 
-// The task in slot i is made Ready, yes; 16 is none, no.
-pub fn woken(mut k: Kernel, i: usize) -> Answer
-    ensures { result ≡ accepted (Value.YesNo (ltb i 16)) (if ltb i 16 then at i (entered TaskState.Ready) k otherwise k) }
+// The task in that slot is made Ready, yes; without one, no.
+pub fn woken(mut k: Kernel, slot: Option<usize>) -> Answer
+    ensures { result ≡ accepted (Value.YesNo (ltb (unwrap_or slot 16) 16)) (if ltb (unwrap_or slot 16) 16 then at (unwrap_or slot 16) (entered TaskState.Ready) k otherwise k) }
 {
+    let i = slot.unwrap_or(Kernel::MAX_TASKS);
     if Kernel::MAX_TASKS <= i {
         return accepted(Value::YesNo(false), k);
     }
-    let t = k.tasks[i];
-    let next = t.entered(TaskState::Ready);
-    k.tasks[i] = next;
+    k.tasks[i] = k.tasks[i].entered(TaskState::Ready);
     accepted(Value::YesNo(true), k)
 }

@@ -1,13 +1,8 @@
--- Each turn writes the key of one slot.
-use Rattle.std.proofs.Common.{refl}
-use Rattle.pick.proofs.Keys.{keyed_none, keyed_more, keyed_done}
+-- Each call makes the key of one slot.
+use Rattle.std.proofs.Common.{rules, eqb, get_or}
+use Rattle.pick.specs.Keys.{IsKey}
+use Rattle.pick.proofs.Keys.{made}
 use Rattle.pick.proofs.byte_keys.Goals as goal
 
-pub loop-i-init : goal.loop-i-init
-loop-i-init c = keyed_none _ _ _ refl
-
-pub loop-i-preserved : goal.loop-i-preserved
-loop-i-preserved c = keyed_more _ _ _ _ _ c.loop-i.invariant c.loop-i-test.true c.key-key.ensures
-
 pub returns : goal.returns
-returns c = keyed_done _ _ _ _ c.loop-i.invariant c.loop-i-test.false
+returns c = made _ _ (λ i y. IsKey (eqb (get_or c.args.states.now i 0) 0) (get_or c.args.priorities.now i 0) y) (λ i y q k. search rules) _ 16 c.from_fn.ensures.items

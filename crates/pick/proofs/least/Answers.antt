@@ -9,7 +9,7 @@ loop-i-init c = record { within = omega arith; least = least_none _ }
 pub loop-i-preserved : goal.loop-i-preserved
 loop-i-preserved c = record {
   within = omega arith;
-  least = rw c.smaller-best.ensures (least_more _ _ _ c.loop-i.invariant.least);
+  least = rw c.min-best.ensures (least_more _ _ _ c.loop-i.invariant.least);
 }
 
 pub returns : goal.returns

@@ -1,17 +1,16 @@
 -- Refused, and accepted.
-use Rattle.std.proofs.Common.{refl, sym, ◌∙◌}
-use Rattle.kernel.specs.Calls.{signal}
-use Rattle.kernel.proofs.Accepted.{accepted_object}
+use Rattle.kernel.specs.Calls.{signal, number}
 use Rattle.kernel.proofs.Step.{step_refused, step_accepted}
+use Rattle.leaf_table.proofs.Laws.{passed_object}
 use Rattle.call_signal.proofs.internal.signal.Goals as goal
 
-pub returns-then-number-ne0 : goal.returns-then-number-ne0
-returns-then-number-ne0 c =
-    step_refused _ (signal _) _ _ c.signal_number-number.ensures c.if-number-ne0.true c.refused.ensures
+pub returns-in-Err : goal.returns-in-Err
+unfolding number
+returns-in-Err c = step_refused _ (signal _) _ _ _ c.check_object.ensures c.in-Err.is c.refused.ensures
 
 pub signalled-requires : goal.signalled-requires
-signalled-requires c =
-    accepted_object _ (signal _) _ _ (sym c.signal_number-number.ensures ∙ c.if-number-ne0.false) refl
+signalled-requires c = (passed_object _ _ c.in_default.ensures).1
 
 pub returns : goal.returns
-returns c = step_accepted _ (signal _) _ _ c.signal_number-number.ensures c.if-number-ne0.false c.signalled.ensures
+unfolding number
+returns c = step_accepted _ (signal _) _ _ _ c.check_object.ensures c.in_default.is c.signalled.ensures

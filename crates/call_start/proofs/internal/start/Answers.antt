@@ -1,17 +1,12 @@
--- Refused, and accepted.
-use Rattle.std.proofs.Common.{sym, ◌∙◌}
+-- Refused; and what passed the checks is whole.
 use Rattle.kernel.specs.Calls
 use Rattle.kernel.proofs.Accepted.{accepted_is}
-use Rattle.kernel.proofs.Step.{step_refused, step_accepted}
+use Rattle.kernel.proofs.Refusal.{accepted_number}
+use Rattle.kernel.proofs.Step.{step_refused}
 use Rattle.call_start.proofs.internal.start.Goals as goal
 
-pub returns-then-number-ne0 : goal.returns-then-number-ne0
-returns-then-number-ne0 c =
-    step_refused _ Calls.start _ _ c.start_number-number.ensures c.if-number-ne0.true c.refused.ensures
+pub returns-in-Err : goal.returns-in-Err
+returns-in-Err c = step_refused _ Calls.start _ _ _ c.check_start.ensures c.in-Err.is c.refused.ensures
 
 pub started-requires : goal.started-requires
-started-requires c =
-    (accepted_is _ Calls.start (sym c.start_number-number.ensures ∙ c.if-number-ne0.false)).current_slot
-
-pub returns : goal.returns
-returns c = step_accepted _ Calls.start _ _ c.start_number-number.ensures c.if-number-ne0.false c.started.ensures
+started-requires c = (accepted_is _ Calls.start (accepted_number _ _ _ c.check_start.ensures c.in_default.is)).current_slot

@@ -1,20 +1,12 @@
--- Refused, and accepted.
-use Rattle.std.proofs.Common.{sym, ◌∙◌}
+-- Refused; and what passed the checks is whole.
 use Rattle.kernel.specs.Calls
-use Rattle.kernel.specs.Calls.{value, effect}
 use Rattle.kernel.proofs.Accepted.{accepted_is}
-use Rattle.kernel.proofs.Step.{step_refused, step_accepted}
+use Rattle.kernel.proofs.Refusal.{accepted_number}
+use Rattle.kernel.proofs.Step.{step_refused}
 use Rattle.call_switch.proofs.internal.switch.Goals as goal
 
-pub returns-then-number-ne0 : goal.returns-then-number-ne0
-returns-then-number-ne0 c =
-    step_refused _ (Calls.switch _ _) _ _ c.switch_number-number.ensures c.if-number-ne0.true c.refused.ensures
+pub returns-in-Err : goal.returns-in-Err
+returns-in-Err c = step_refused _ (Calls.switch _ _) _ _ _ c.check_switch.ensures c.in-Err.is c.refused.ensures
 
 pub switched-requires : goal.switched-requires
-switched-requires c =
-    (accepted_is _ (Calls.switch _ _) (sym c.switch_number-number.ensures ∙ c.if-number-ne0.false)).current_slot
-
-pub returns : goal.returns
-unfolding value effect
-returns c =
-    step_accepted _ (Calls.switch _ _) _ _ c.switch_number-number.ensures c.if-number-ne0.false c.switched.ensures
+switched-requires c = (accepted_is _ (Calls.switch _ _) (accepted_number _ _ _ c.check_switch.ensures c.in_default.is)).current_slot

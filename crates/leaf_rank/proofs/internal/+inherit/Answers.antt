@@ -9,16 +9,16 @@ returns-then-left-eq0 t c = record {
   each = λ i h. walk_none _ _ _ _ _ _ i c.if-left-eq0.true;
 }
 
-pub returns-then-to-ge-MAX_TASKS : goal.returns-then-to-ge-MAX_TASKS
-returns-then-to-ge-MAX_TASKS t c = record {
+pub returns-in_default : goal.returns-in_default
+returns-in_default t c = record {
   long = c.requires.3;
-  each = λ i h. walk_out _ _ _ _ _ _ i c.if-to-ge-MAX_TASKS.true;
+  each = λ i h. walk_out _ _ _ _ _ _ i c.in_default.not-Some;
 }
 
 pub returns-then-met-to : goal.returns-then-met-to
 returns-then-met-to t c = record {
   long = c.requires.3;
-  each = λ i h. walk_met _ _ _ _ _ _ i c.if-met-to.true;
+  each = λ i h. walk_met _ _ _ _ _ _ i _ c.in-Some.is c.if-met-to.true;
 }
 
 pub returns : goal.returns
@@ -26,6 +26,6 @@ returns t c = record {
   long = c.inherit.ensures.long;
   each = λ i h.
       c.inherit.ensures.each i h
-      ∙ walk_more _ _ _ _ _ _ i _ c.smaller-rank.ensures c.requires.2 c.requires.3 c.if-left-eq0.false
-      c.if-to-ge-MAX_TASKS.false c.if-met-to.false;
+      ∙ walk_more _ _ _ _ _ _ i _ _ c.requires.1 c.in-Some.is c.min.ensures c.requires.2 c.requires.3 c.if-left-eq0.false
+      c.if-met-to.false;
 }

@@ -2,10 +2,10 @@
 use Rattle.leaf_rank.proofs.Laws.{no_walk, walk_from}
 use Rattle.leaf_rank.proofs.internal.inherit_from.Goals as goal
 
-pub returns-then-links-j-ge-NONE : goal.returns-then-links-j-ge-NONE
-returns-then-links-j-ge-NONE c = record {
+pub returns-then-is_none : goal.returns-then-is_none
+returns-then-is_none c = record {
   long = c.requires.2;
-  each = λ i h. no_walk _ _ _ _ i c.if-links-j-ge-NONE.true;
+  each = λ i h. no_walk _ _ _ _ i c.if-is_none.ensures;
 }
 
 pub returns : goal.returns

@@ -1,21 +1,16 @@
 -- Each turn passes on the number of one slot.
-use Rattle.std.proofs.Common.{zero-le, arith, rules}
+use Rattle.std.proofs.Common.{rules}
 use Rattle.leaf_rank.proofs.Laws.{inherited_none, inherited_more, inherited_done}
 use Rattle.leaf_rank.proofs.internal.inherited.Goals as goal
 
 pub loop-j-init : goal.loop-j-init
-loop-j-init c = record { within = zero-le; passed_on = inherited_none _ _ (search rules) }
+loop-j-init c = inherited_none _ _ (search rules)
 
 pub inherit_from-requires : goal.inherit_from-requires
-inherit_from-requires c = (c.loop-j-test.true, c.requires, c.loop-j.invariant.passed_on.long)
+inherit_from-requires c = (c.loop-j-test.true, c.requires, c.loop-j.invariant.long)
 
 pub loop-j-preserved : goal.loop-j-preserved
-loop-j-preserved c = record {
-  within = omega arith;
-  passed_on = inherited_more _ _ _ _ _ c.loop-j.invariant.passed_on c.inherit_from.ensures;
-}
+loop-j-preserved c = inherited_more _ _ _ _ _ c.loop-j.invariant c.inherit_from.ensures
 
 pub returns : goal.returns
-returns c =
-    let l = c.loop-j.invariant in
-    inherited_done _ _ _ _ l.within l.passed_on c.loop-j-test.false
+returns c = inherited_done _ _ _ _ c.loop-j.auto.j-end c.loop-j.invariant c.loop-j-test.false

@@ -1,4 +1,4 @@
--- The painter got the region's words and no others.
+-- The region's words are paint, and no others were written.
 use Rattle.std.proofs.Common.{◌≡◌, ℕ, ◌+◌, ◌-◌, ◌≤◌, List, ◌++◌, length, replicate, take, drop, arith, length-drop}
 use Rattle.std.proofs.lemmas.List.{length-take-le, drop-drop}
 use Rattle.kernel.specs.Control.{paint, painted}
@@ -14,4 +14,4 @@ back s n xs ys h e =
 
 pub returns : goal.returns
 unfolding painted
-returns c = back _ _ _ _ c.requires c.fill.ensures
+returns c = back _ _ _ _ c.requires (c.fill.ensures.after (λ y e. e))

@@ -1,19 +1,10 @@
--- What the test says at each slot makes the search go on or end there.
+-- What std's search says, by the slots' numbers.
 use Rattle.std.proofs.Common.{rules}
-use Rattle.base.proofs.Loops.{searching}
-use Rattle.kernel.specs.Kernel.{slot_of}
+use Rattle.base.proofs.Lists.{position_lowest}
+use Rattle.kernel.specs.Control.{blank_slot}
+use Rattle.kernel.specs.Kernel.{slot_of, holds_id}
 use Rattle.leaf_table.proofs.internal.slot_of.Goals as goal
 
-pub loop-i-init : goal.loop-i-init
-loop-i-init c = search (searching, rules)
-
-pub returns-then-t-id : goal.returns-then-t-id
+pub returns-clause-place : goal.returns-clause-place
 unfolding slot_of
-returns-then-t-id c = search (searching, rules)
-
-pub loop-i-preserved : goal.loop-i-preserved
-loop-i-preserved c = search (searching, rules)
-
-pub returns : goal.returns
-unfolding slot_of
-returns c = search (searching, rules)
+returns-clause-place c = rw c.holder.ensures (position_lowest (holds_id c.args.id) c.args.k.now.tasks blank_slot 16 (search rules))

@@ -6,4 +6,4 @@ use Rattle.leaf_whole.proofs.internal.region_fits.Goals as goal
 
 pub returns : goal.returns
 unfolding region_fits
-returns c = joined_every _ (_ ∷ _ ∷ _ ∷ [])
+returns c = rw (c.from.ensures, c.from-2.ensures, c.from-3.ensures, c.from-4.ensures) (joined_every _ (_ ∷ _ ∷ _ ∷ []))

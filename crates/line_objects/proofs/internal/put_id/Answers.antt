@@ -1,12 +1,13 @@
 -- In each arm the variant is known.
-use Rattle.line_text.proofs.Writing.{same_text}
+use Rattle.std.proofs.Common.{refl, arith}
+use Rattle.line_text.proofs.Writing.{put_as}
 use Rattle.line_objects.specs.ObjectsLine.{id_text}
 use Rattle.line_objects.proofs.internal.put_id.Goals as goal
 
-pub returns-in-None-clause-writes : goal.returns-in-None-clause-writes
+pub returns-in-None : goal.returns-in-None
 unfolding id_text
-returns-in-None-clause-writes c = same_text (rw c.in-None.is) c.put.ensures
+returns-in-None c = put_as c.put.ensures (rw c.in-None.is refl) (omega arith)
 
-pub returns-in-Some-clause-writes : goal.returns-in-Some-clause-writes
+pub returns-in-Some : goal.returns-in-Some
 unfolding id_text
-returns-in-Some-clause-writes c = same_text (rw c.in-Some.is) c.put_decimal.ensures.writes
+returns-in-Some c = put_as c.put_decimal.ensures (rw c.in-Some.is refl) (omega arith)

@@ -1,24 +1,23 @@
--- The bracket, the ids one by one, the bracket.
-use Rattle.std.proofs.Common.{ℕ, ◌<◌, ◌≡◌, true, ltb, arith}
-use borrow.Author.Tests.{lt-ltb, ltb-true}
-use Rattle.line_text.proofs.Writing.{written_then, written_length}
-use Rattle.line_objects.specs.ObjectsLine.{queue_text}
-use Rattle.line_objects.proofs.Joined.{joining_start, joining_more, joining_done, all_before}
+-- The bracket, the ids that wait, the bracket.
+use Rattle.std.proofs.Common.{◌*◌, ap, ◌∙◌, ◌≡◌, ◌≤◌, length, take, length-take, decimal, arith, rules}
+use Rattle.kernel.specs.declared.control.TaskId.{TaskId}
+use Rattle.line_text.proofs.Writing.{◌⨾◌, put_within, put_as}
+use Rattle.line_objects.specs.ObjectsLine.{joined, queue_text}
+use Rattle.line_objects.proofs.Joined.{joined_taken, joined_first}
 use Rattle.line_objects.proofs.internal.put_queue.Goals as goal
 
-all_wait : (len j : ℕ) → ltb j len ≡ true → (i : ℕ) → i < j → ltb i len ≡ true
-all_wait len j e i h = lt-ltb i len (omega (arith, ltb-true j len e))
+pub put-requires-2 : goal.put-requires-2
+put-requires-2 c =
+    let eight : length c.args.q.ids ≡ 8 = search rules in
+    let many = length-take c.min.result c.args.q.ids in
+    omega (arith, c.requires, c.put.ensures.short, c.put.ensures.same_length, c.put_each.ensures.short, c.put_each.ensures.same_length, many)
 
-pub loop-j-init : goal.loop-j-init
-loop-j-init c = joining_start (omega (arith, written_length _ c.put-n.ensures))
-
-pub loop-j-preserved : goal.loop-j-preserved
-loop-j-preserved c =
-    joining_more _ _ c.loop-j.invariant c.loop-j-test.true (λ e. all_before _ _ (all_wait _ _ e))
-    c.put_waiter_if-n.ensures.writes c.put_waiter_if-n.ensures.short
-
-pub returns-clause-writes : goal.returns-clause-writes
+pub returns : goal.returns
 unfolding queue_text
-returns-clause-writes c =
-    let ids = joining_done _ c.loop-j.invariant c.loop-j-test.false in
-    written_then _ _ (written_then _ _ c.put-n.ensures ids.0) c.put.ensures
+returns c =
+    let ids = c.args.q.ids in
+    let eight : length ids ≡ 8 = search rules in
+    let few : 21 * length (take c.min.result ids) ≤ 168 = omega (arith, length-take c.min.result ids) in
+    let first : c.min.result ≤ length ids = omega (arith, c.min.ensures) in
+    let text = joined_taken 32 (λ (a : TaskId). decimal a.0) ids _ c.min.result first ∙ ap (joined 32 _ _) c.min.ensures ∙ joined_first 32 _ c.args.q.len 8 in
+    put_within (c.put.ensures ⨾ put_as c.put_each.ensures text few ⨾ c.put-2.ensures) (omega arith)

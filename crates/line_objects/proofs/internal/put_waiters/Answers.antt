@@ -1,6 +1,7 @@
 -- The comma, the queue, the semicolon.
-use Rattle.line_text.proofs.Writing.{written_then}
+use Rattle.std.proofs.Common.{arith}
+use Rattle.line_text.proofs.Writing.{◌⨾◌, put_within}
 use Rattle.line_objects.proofs.internal.put_waiters.Goals as goal
 
-pub returns-clause-writes : goal.returns-clause-writes
-returns-clause-writes c = written_then _ _ (written_then _ _ c.put-n.ensures c.put_queue-n.ensures.writes) c.put.ensures
+pub returns : goal.returns
+returns c = put_within (c.put.ensures ⨾ c.put_queue.ensures ⨾ c.put-2.ensures) (omega arith)

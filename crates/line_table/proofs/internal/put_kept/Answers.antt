@@ -1,18 +1,19 @@
 -- In each arm the variant is known.
-use Rattle.line_text.proofs.Writing.{written_then, same_text}
+use Rattle.std.proofs.Common.{refl, arith}
+use Rattle.line_text.proofs.Writing.{◌⨾◌, put_as}
 use Rattle.line_table.specs.TableLine.{kept_text}
 use Rattle.line_table.proofs.internal.put_kept.Goals as goal
 
-pub returns-in-NoLimit-clause-writes : goal.returns-in-NoLimit-clause-writes
+pub returns-in-NoLimit : goal.returns-in-NoLimit
 unfolding kept_text
-returns-in-NoLimit-clause-writes c =
-    same_text (rw c.in-NoLimit.is) (written_then _ _ (written_then _ _ c.put_two-second.ensures c.put_two-third.ensures) c.put_two.ensures)
+returns-in-NoLimit c = put_as c.put_text.ensures (rw c.in-NoLimit.is refl) (omega arith)
 
-pub returns-in-AtSemaphore-clause-writes : goal.returns-in-AtSemaphore-clause-writes
+pub returns-in-AtSemaphore : goal.returns-in-AtSemaphore
 unfolding kept_text
-returns-in-AtSemaphore-clause-writes c = same_text (rw c.in-AtSemaphore.is) (written_then _ _ c.put_two-number.ensures c.put_object.ensures.writes)
+returns-in-AtSemaphore c =
+    put_as (c.put_text-in-AtSemaphore.ensures ⨾ c.put_field.ensures ⨾ c.put_field-in-AtSemaphore.ensures) (rw c.in-AtSemaphore.is refl) (omega arith)
 
-pub returns-in-AtEvent-clause-writes : goal.returns-in-AtEvent-clause-writes
+pub returns-in-AtEvent : goal.returns-in-AtEvent
 unfolding kept_text
-returns-in-AtEvent-clause-writes c =
-    same_text (rw c.in-AtEvent.is) (written_then _ _ c.put_two-number-in-AtEvent.ensures c.put_object-in-AtEvent.ensures.writes)
+returns-in-AtEvent c =
+    put_as (c.put_text-in-AtEvent.ensures ⨾ c.put_field-in-AtEvent.ensures ⨾ c.put_field-in-AtEvent-2.ensures) (rw c.in-AtEvent.is refl) (omega arith)

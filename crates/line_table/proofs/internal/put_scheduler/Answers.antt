@@ -1,10 +1,10 @@
 -- Its five fields, one after the other.
-use Rattle.line_text.proofs.Writing.{written_then}
-use Rattle.line_objects.proofs.Parts.{then_three}
+use Rattle.std.proofs.Common.{arith}
+use Rattle.line_text.proofs.Writing.{◌⨾◌, put_within}
 use Rattle.line_table.specs.TableLine.{scheduler_text}
 use Rattle.line_table.proofs.internal.put_scheduler.Goals as goal
 
-pub returns-clause-writes : goal.returns-clause-writes
+pub returns : goal.returns
 unfolding scheduler_text
-returns-clause-writes c =
-    then_three _ _ _ _ (written_then _ _ (written_then _ _ c.put_decimal-n.ensures.writes c.put-n.ensures) c.put_flag-n.ensures) c.put_fields.ensures.writes
+returns c =
+    put_within (c.put_decimal.ensures ⨾ c.put.ensures ⨾ c.put_flag.ensures ⨾ c.put_field.ensures ⨾ c.put_field-2.ensures ⨾ c.put_field-3.ensures) (omega arith)

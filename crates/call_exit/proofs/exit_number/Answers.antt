@@ -1,7 +1,0 @@
--- A whole kernel's current is a slot.
-use Rattle.std.proofs.Common.{sym, ◌∙◌}
-use Rattle.kernel.proofs.Whole.{is_whole}
-use Rattle.call_exit.proofs.exit_number.Goals as goal
-
-pub exit_late_number-requires : goal.exit_late_number-requires
-exit_late_number-requires c = (is_whole _ (sym c.requires ∙ c.if-not-is_whole.false)).current_slot

@@ -1,9 +1,0 @@
--- Of the records, the first i are written, each after a semicolon unless it is the first.
-use Rattle.std.proofs.Common.{true, get_or}
-use Rattle.call_list.specs.Records.{blank_info}
-use Rattle.line_objects.proofs.Joined.{Joining}
-use Rattle.line_records.specs.RecordsText.{info_text}
-use Rattle.line_records.proofs.internal.put_records.Given as goal
-
-abbrev pub invariant-loop-i : goal.invariant-loop-i
-invariant-loop-i l = Joining 59 (λ _. true) (λ j. info_text (get_or l.records j blank_info)) 105 l.count l.initial.out l.at l.out l.n l.i
