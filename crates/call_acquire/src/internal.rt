@@ -12,7 +12,7 @@ pub fn acquire(k: Kernel, known: bool, s: usize) -> Answer
     ensures { result ≡ step k (acquire s) }
 {
     if let Err(refusal) = check_acquire(&k, known, s) {
-        return answer::refused(refusal, k);
+        return answer::refused_by(refusal, k);
     }
     let got = has_permit(&k, s);
     answer::accepted(Value::YesNo(got), acquired(k, s))
@@ -23,7 +23,7 @@ pub fn acquire_within(k: Kernel, known: bool, s: usize, ticks: u64) -> Answer
     ensures { result ≡ step k (acquire_within s ticks) }
 {
     if let Err(refusal) = check_acquire_within(&k, known, s, ticks) {
-        return answer::refused(refusal, k);
+        return answer::refused_by(refusal, k);
     }
     let got = has_permit(&k, s);
     answer::accepted(Value::YesNo(got), acquired_within(k, s, ticks))
@@ -34,7 +34,7 @@ pub fn try_acquire(k: Kernel, known: bool, s: usize) -> Answer
     ensures { result ≡ step k (try_acquire s) }
 {
     if let Err(refusal) = leaf_table::internal::check_object(&k, known, s) {
-        return answer::refused(refusal, k);
+        return answer::refused_by(refusal, k);
     }
     let got = has_permit(&k, s);
     answer::accepted(Value::YesNo(got), tried(k, s))

@@ -19,7 +19,7 @@ pub fn add_task(
     ensures { (result ≡ step k (add arena.old priority region)) × (arena.new ≡ add_words k priority region arena.old) }
 {
     let i = match check_add(&k, known, region, arena.len()) {
-        Err(refusal) => return answer::refused(refusal, k),
+        Err(refusal) => return answer::refused_by(refusal, k),
         Ok(i) => i,
     };
     leaf_stack::internal::paint_region(arena, region);

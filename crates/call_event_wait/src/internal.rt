@@ -12,7 +12,7 @@ pub fn wait(k: Kernel, known: bool, e: usize) -> Answer
     ensures { result ≡ step k (event_wait e) }
 {
     if let Err(refusal) = check_wait(&k, known, e) {
-        return answer::refused(refusal, k);
+        return answer::refused_by(refusal, k);
     }
     let got = k.events[e].signaled;
     answer::accepted(Value::YesNo(got), waited(k, e))
@@ -23,7 +23,7 @@ pub fn wait_within(k: Kernel, known: bool, e: usize, ticks: u64) -> Answer
     ensures { result ≡ step k (event_wait_within e ticks) }
 {
     if let Err(refusal) = check_wait_within(&k, known, e, ticks) {
-        return answer::refused(refusal, k);
+        return answer::refused_by(refusal, k);
     }
     let got = k.events[e].signaled;
     answer::accepted(Value::YesNo(got), waited_within(k, e, ticks))

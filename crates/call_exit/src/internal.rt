@@ -13,7 +13,7 @@ pub fn exit_current_task(k: Kernel, known: bool) -> Answer
     ensures { result ≡ step k exit }
 {
     if let Err(refusal) = check_exit(&k, known) {
-        return answer::refused(refusal, k);
+        return answer::refused_by(refusal, k);
     }
     answer::accepted(Value::Nothing, exited(k))
 }

@@ -57,7 +57,7 @@ pub fn init(hz: u32, arena: &mut [u32]) -> Answer
 {
     let words = arena.len();
     if let Err(refusal) = check_init(hz, words) {
-        return answer::refused(refusal, Kernel::blank());
+        return answer::refused_by(refusal, Kernel::blank());
     }
     leaf_stack::internal::paint_region(arena, idle_stack());
     answer::accepted(Value::Nothing, fresh_kernel(hz, words as u32))

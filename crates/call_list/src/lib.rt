@@ -82,7 +82,7 @@ pub fn tasks(k: Kernel, arena: &[u32], records: &mut [TaskInfo]) -> Answer
     ensures { (result ≡ step k (list arena.now records.old)) × (records.new ≡ list_records k arena.now records.old) }
 {
     if let Err(refusal) = check_list(&k, arena, records.len()) {
-        return answer::refused(refusal, k);
+        return answer::refused_by(refusal, k);
     }
     write_records(k, arena, records);
     answer::accepted(Value::Count(k.task_count as usize), k)

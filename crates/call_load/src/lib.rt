@@ -113,7 +113,7 @@ pub fn load(k: Kernel, id: TaskId) -> Answer
     ensures { result ≡ step k (load id) }
 {
     match check_load(&k, id) {
-        Err(refusal) => answer::refused(refusal, k),
+        Err(refusal) => answer::refused_by(refusal, k),
         Ok((i, ticks)) => {
             let p = thousandfold(k.charges[i], ticks);
             answer::accepted(Value::Load(p.share, p.remainder), k)

@@ -32,7 +32,7 @@ pub fn lock(k: Kernel, known: bool, m: usize) -> Answer
     ensures { result ≡ step k (lock m) }
 {
     if let Err(refusal) = check_lock(&k, known, m) {
-        return answer::refused(refusal, k);
+        return answer::refused_by(refusal, k);
     }
     answer::accepted(Value::YesNo(lock_got(&k, m)), locked(k, m))
 }

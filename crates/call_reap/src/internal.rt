@@ -14,7 +14,7 @@ pub fn reap_task(k: Kernel, known: bool, id: TaskId) -> Answer
     ensures { result ≡ step k (reap id) }
 {
     match check_reap(&k, known, id) {
-        Err(refusal) => answer::refused(refusal, k),
+        Err(refusal) => answer::refused_by(refusal, k),
         Ok(i) => reaped(k, i),
     }
 }
@@ -24,7 +24,7 @@ pub fn reap_one(k: Kernel, known: bool) -> Answer
     ensures { result ≡ step k reap_one }
 {
     if let Err(refusal) = leaf_whole::internal::check(&k, known) {
-        return answer::refused(refusal, k);
+        return answer::refused_by(refusal, k);
     }
     match reapable(k) {
         None => answer::accepted(Value::NoRegion, k),

@@ -12,7 +12,7 @@ pub fn release(k: Kernel, known: bool, s: usize) -> Answer
     ensures { result ≡ step k (release s) }
 {
     match check_release(&k, known, s) {
-        Err(refusal) => answer::refused(refusal, k),
+        Err(refusal) => answer::refused_by(refusal, k),
         Ok(()) => released(k, s),
     }
 }

@@ -12,7 +12,7 @@ pub fn signal(k: Kernel, known: bool, e: usize) -> Answer
     ensures { result ≡ step k (signal e) }
 {
     if let Err(refusal) = leaf_table::internal::check_object(&k, known, e) {
-        return answer::refused(refusal, k);
+        return answer::refused_by(refusal, k);
     }
     signalled(k, e)
 }

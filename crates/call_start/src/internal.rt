@@ -13,7 +13,7 @@ pub fn start(k: Kernel, known: bool) -> Answer
     ensures { result ≡ step k start }
 {
     if let Err(refusal) = check_start(&k, known) {
-        return answer::refused(refusal, k);
+        return answer::refused_by(refusal, k);
     }
     started(k)
 }

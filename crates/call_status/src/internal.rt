@@ -15,7 +15,7 @@ pub fn set_current_task_status(k: Kernel, known: bool, state: u8) -> Answer
     ensures { result ≡ step k (status state) }
 {
     match check_status(&k, known, state) {
-        Err(refusal) => answer::refused(refusal, k),
+        Err(refusal) => answer::refused_by(refusal, k),
         Ok(state) => {
             answer::accepted(Value::Nothing, leaf_table::internal::set_status(k, state))
         },
@@ -27,7 +27,7 @@ pub fn block_current_task(k: Kernel, known: bool) -> Answer
     ensures { result ≡ step k block }
 {
     if let Err(refusal) = leaf_table::internal::check_started(&k, known) {
-        return answer::refused(refusal, k);
+        return answer::refused_by(refusal, k);
     }
     answer::accepted(
         Value::Nothing,
@@ -40,7 +40,7 @@ pub fn current_task_sleep_ticks(k: Kernel, known: bool, ticks: u64) -> Answer
     ensures { result ≡ step k (sleep ticks) }
 {
     if let Err(refusal) = leaf_table::internal::check_started(&k, known) {
-        return answer::refused(refusal, k);
+        return answer::refused_by(refusal, k);
     }
     answer::accepted(Value::Nothing, put_to_sleep(k, ticks))
 }

@@ -19,7 +19,7 @@ pub fn current_task_id(k: Kernel) -> Answer
     ensures { result ≡ step k current_id }
 {
     if let Err(refusal) = leaf_table::internal::check_started(&k, false) {
-        return answer::refused(refusal, k);
+        return answer::refused_by(refusal, k);
     }
     answer::accepted(Value::Id(leaf_table::internal::current_id(&k)), k)
 }

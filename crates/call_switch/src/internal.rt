@@ -13,7 +13,7 @@ pub fn switch(k: Kernel, known: bool, sp: u32, arena: &[u32]) -> Answer
     ensures { result ≡ step k (switch arena.now sp) }
 {
     if let Err(refusal) = check_switch(&k, known, sp, arena) {
-        return answer::refused(refusal, k);
+        return answer::refused_by(refusal, k);
     }
     switched(k, sp)
 }

@@ -87,13 +87,13 @@ pub walking_charge : {now : ℕ} {k₀ k : Kernel} {woke : Bool} {i : ℕ} → W
 walking_charge {k₀ = k₀} w h = let is = is_whole k₀ h in omega (arith, ap (λ (x : Kernel). charge x (current x)) (walking_beside w).form, is.charges, sum_at (charge k₀) 16 (current k₀) is.current_slot)
 
 -- the object of a limit that is due
-walking_fits : {now : ℕ} {k₀ k : Kernel} {woke : Bool} {i : ℕ} → Walking now k₀ k woke i → whole k₀ ≡ true → i < 16 → is_limit_due now (slot k i) ≡ true → object_fits (slot k i).limit_object ≡ true
+pub walking_fits : {now : ℕ} {k₀ k : Kernel} {woke : Bool} {i : ℕ} → Walking now k₀ k woke i → whole k₀ ≡ true → i < 16 → is_limit_due now (slot k i) ≡ true → object_fits (slot k i).limit_object ≡ true
 walking_fits {now} {k₀} {k} {woke} {i} w h l p = let o = due_occupied now (slot k i) p in rw (walking_slot w) ((is_whole k₀ h).limits i l (rw (← walking_slot w) o.0) (rw (← walking_slot w) o.1)).1
 
-semaphore_fits : (o : LimitObject) (s : ℕ) → o ≡ AtSemaphore s → object_fits o ≡ true → s < 4
+pub semaphore_fits : (o : LimitObject) (s : ℕ) → o ≡ AtSemaphore s → object_fits o ≡ true → s < 4
 semaphore_fits o s e f = ltb-true _ _ (rw e at f)
 
-event_fits : (o : LimitObject) (v : ℕ) → o ≡ AtEvent v → object_fits o ≡ true → v < 4
+pub event_fits : (o : LimitObject) (v : ℕ) → o ≡ AtEvent v → object_fits o ≡ true → v < 4
 event_fits o v e f = ltb-true _ _ (rw e at f)
 
 pub walking_semaphore : {now : ℕ} {k₀ k : Kernel} {woke : Bool} {i s : ℕ} → Walking now k₀ k woke i → whole k₀ ≡ true → i < 16 → true ≡ is_limit_due now (slot k i) → (slot k i).limit_object ≡ AtSemaphore s → s < 4

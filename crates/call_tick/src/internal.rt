@@ -12,10 +12,10 @@ pub fn update_tick(k: Kernel, known: bool) -> Answer
     ensures { result ≡ step k tick }
 {
     if let Err(refusal) = leaf_whole::internal::check(&k, known) {
-        return answer::refused(refusal, k);
+        return answer::refused_by(refusal, k);
     }
     if k.tick_count == u64::MAX {
-        return answer::refused(Refusal::LastTick, k);
+        return answer::refused_by(Refusal::LastTick, k);
     }
     ticked(k)
 }

@@ -42,7 +42,7 @@ pub fn ticks_to_ms(k: Kernel, ticks: u64) -> Answer
     ensures { result ≡ step k (ticks_to_ms ticks) }
 {
     match check_ms(&k, ticks) {
-        Err(refusal) => answer::refused(refusal, k),
+        Err(refusal) => answer::refused_by(refusal, k),
         Ok(ms) => answer::accepted(Value::Milliseconds(ms), k),
     }
 }

@@ -13,7 +13,7 @@ pub fn try_lock(k: Kernel, known: bool, m: usize) -> Answer
     ensures { result ≡ step k (try_lock m) }
 {
     if let Err(refusal) = leaf_table::internal::check_started_object(&k, known, m) {
-        return answer::refused(refusal, k);
+        return answer::refused_by(refusal, k);
     }
     answer::accepted(Value::YesNo(!k.mutexes[m].locked), tried(k, m))
 }

@@ -13,7 +13,7 @@ pub fn unlock(k: Kernel, known: bool, m: usize) -> Answer
     ensures { result ≡ step k (unlock m) }
 {
     if let Err(refusal) = check_unlock(&k, known, m) {
-        return answer::refused(refusal, k);
+        return answer::refused_by(refusal, k);
     }
     answer::accepted(Value::YesNo(k.mutexes[m].waiters.len != 0), unlocked(k, m))
 }

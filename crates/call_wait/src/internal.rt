@@ -14,7 +14,7 @@ pub fn wait_task(k: Kernel, known: bool, id: TaskId) -> Answer
     ensures { result ≡ step k (wait id) }
 {
     match check_wait(&k, known, id) {
-        Err(refusal) => answer::refused(refusal, k),
+        Err(refusal) => answer::refused_by(refusal, k),
         Ok(i) => answer::accepted(Value::Nothing, waited(k, i, id)),
     }
 }

@@ -13,7 +13,7 @@ pub fn wake_task(k: Kernel, known: bool, id: TaskId) -> Answer
     ensures { result ≡ step k (wake id) }
 {
     if let Err(refusal) = leaf_whole::internal::check(&k, known) {
-        return answer::refused(refusal, k);
+        return answer::refused_by(refusal, k);
     }
     answer::woken(k, leaf_table::internal::blocked_slot(&k, id))
 }

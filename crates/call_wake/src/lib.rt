@@ -33,7 +33,7 @@ pub fn set_syscall_result(mut k: Kernel, id: TaskId, value: i32) -> Answer
     ensures { result ≡ step k (Calls.result id value) }
 {
     match check_result(&k, id) {
-        Err(refusal) => answer::refused(refusal, k),
+        Err(refusal) => answer::refused_by(refusal, k),
         Ok(i) => {
             k.tasks[i].result = value;
             answer::accepted(Value::Nothing, k)

@@ -6,11 +6,11 @@ use native.Mathlib.Decide.{ℕ_discrete, dec_lt}
 use native.Mathlib.Numerals.{add-one, sub-one}
 use mathlib.Core.Path.{◌≡◌, refl, sym, ap, ◌∙◌}
 use mathlib.Core.Bool.{Bool, true, false, false≢true, cond, ◌&&◌, ◌||◌}
-use mathlib.Core.List.{List, [], map}
+use mathlib.Core.List.{List, []}
 use lib.Dec.{eqb, leb, ltb}
-use lib.ListN.{length, get_or, set, replicate, get_or-eq_default, get_or-map}
+use lib.ListN.{length, get_or, set, replicate, get_or-eq_default}
 use lib.Seq.{get_or-set_same, get_or-set_other}
-use borrow.Author.Tests.{lt-ltb, le-ltb, le-leb, lt-leb, eq-eqb, ne_eqb}
+use borrow.Author.Tests.{ltb-true, lt-ltb, le-ltb, le-leb, lt-leb, eq-eqb, ne_eqb}
 use Rattle.base.specs.Choice.{if◌then◌otherwise◌}
 use Rattle.base.specs.Below.{smallest_below, tabulate}
 use Rattle.base.proofs.Choices.{either}
@@ -165,16 +165,16 @@ links_slots k links e = record { slots = λ j. rw e (go j (dec_lt j 16)) }
     go j (no n) = rw (get_or-eq_default (tabulate f 16) None {n = j} (omega (arith, tabulate_length f 16, n))) tt
 
 -- the link of slot j, by the slots of the owners
-pub link_is : (k : Kernel) (j : ℕ) (owners : List (Option ℕ)) → length k.mutexes ≡ 4 → owners ≡ map (λ m. some_slot (owner_slot k m.owner)) k.mutexes → link_of (slot k j) k.mutexes owners ≡ some_slot (link k j)
+pub link_is : (k : Kernel) (j : ℕ) (owners : List (Option ℕ)) → length k.mutexes ≡ 4 → owners ≡ tabulate (λ m. some_slot (owner_slot k (mutex k m).owner)) 4 → link_of (slot k j) k.mutexes owners ≡ some_slot (link k j)
 unfolding link link_of if◌then◌otherwise◌
 link_is k j owners l e =
     let at : position (λ m. contains m.waiters (slot k j).id) k.mutexes ≡ cond (ltb (queued_at k (slot k j).id) 4) (Some (queued_at k (slot k j).id)) None = position_is _ k.mutexes _ 4 l in
-    rw at (go (queued_at k (slot k j).id) (holds_task Blocked (slot k j)) (ltb (queued_at k (slot k j).id) 4))
+    rw at (go (queued_at k (slot k j).id) (holds_task Blocked (slot k j)) (ltb (queued_at k (slot k j).id) 4) refl)
   where
-    go : (m : ℕ) (h x : Bool) → (if h then option_and_then (λ o. get_or owners o None) (cond x (Some m) None) otherwise None) ≡ some_slot (if h && x then owner_slot k (mutex k m).owner otherwise 16)
-    go m true true = rw e (get_or-map (λ o. some_slot (owner_slot k o.owner)) k.mutexes m _)
-    go m true false = refl
-    go m false x = refl
+    go : (m : ℕ) (h x : Bool) → ltb m 4 ≡ x → (if h then option_and_then (λ o. get_or owners o None) (cond x (Some m) None) otherwise None) ≡ some_slot (if h && x then owner_slot k (mutex k m).owner otherwise 16)
+    go m true true b = rw e (tabulate_at (λ o. some_slot (owner_slot k (mutex k o).owner)) None 4 m (ltb-true _ _ b))
+    go m true false b = refl
+    go m false x b = refl
 
 pub ranks_are : (k : Kernel) (links : List (Option ℕ)) (own ranks : List ℕ) → links ≡ tabulate (λ j. some_slot (link k j)) 16 → own ≡ tabulate (priority_of k) 16 → Inherited links own ranks 16 → Each 16 (rank k) ranks
 unfolding rank

@@ -1,8 +1,9 @@
 // The rank of each slot (02, W-205): a task that waits at a mutex passes its number on to the mutex's owner, and on along the chain.
 // Arrays go from call to call by value, and the walk along a chain is lent them.
-ghost use Rattle.std.specs.Prelude.{◌≡◌, ◌<◌, length, map};
+ghost use Rattle.std.specs.Prelude.{◌≡◌, ◌<◌, length};
 ghost use Rattle.std.specs.List.{list_all, position};
 ghost use Rattle.base.specs.Below.{tabulate};
+ghost use Rattle.kernel.specs.Kernel.{mutex};
 ghost use Rattle.kernel.specs.WaitQueue.{contains, is_empty};
 ghost use Rattle.kernel.specs.Rank.{priority_of, owner_slot, link, no_queues, rank};
 ghost use Rattle.leaf_rank.specs.Inherited.{some_slot, link_of, Slots, Each, inherited_by, inherited_from, Inherited};
@@ -10,6 +11,7 @@ ghost use Rattle.leaf_rank.specs.Inherited.{some_slot, link_of, Slots, Each, inh
 use kernel::control::{TaskControl, TaskId};
 use kernel::mutex::Mutex;
 use kernel::scheduler::Kernel;
+use std::array;
 
 fn all_empty(mutexes: [Mutex; Kernel::OBJECTS]) -> bool
     ensures { result ≡ list_all (λ m. is_empty m.waiters) mutexes }
@@ -27,33 +29,33 @@ pub fn no_queues(k: Kernel) -> bool
 // ---- links
 
 // The lowest mutex at which the id is queued.
-fn queued_at(mutexes: [Mutex; Kernel::OBJECTS], id: TaskId) -> Option<usize>
-    ensures { result ≡ position (λ m. contains m.waiters id) mutexes }
+fn queued_at(mutexes: &[Mutex; Kernel::OBJECTS], id: TaskId) -> Option<usize>
+    ensures { result ≡ position (λ m. contains m.waiters id) mutexes.now }
 {
     mutexes
         .iter()
-        .position(|m| leaf_queue::contains(m.waiters, id))
+        .position(|m| leaf_queue::lent::contains(&m.waiters, id))
 }
 
-fn owner_slot(k: Kernel, owner: Option<TaskId>) -> Option<usize>
-    ensures { result ≡ some_slot (owner_slot k owner) }
+fn owner_slot(k: &Kernel, owner: Option<TaskId>) -> Option<usize>
+    ensures { result ≡ some_slot (owner_slot k.now owner) }
 {
-    leaf_table::internal::slot_of(&k, owner?)
+    leaf_table::internal::slot_of(k, owner?)
 }
 
-fn owner_slots(k: Kernel) -> [Option<usize>; Kernel::OBJECTS]
-    ensures { result ≡ map (λ m. some_slot (owner_slot k m.owner)) k.mutexes }
+fn owner_slots(k: &Kernel) -> [Option<usize>; Kernel::OBJECTS]
+    ensures { result ≡ tabulate (λ m. some_slot (owner_slot k.now (mutex k.now m).owner)) 4 }
 {
-    k.mutexes.map(|m| owner_slot(k, m.owner))
+    array::from_fn(|m| owner_slot(k, k.mutexes[m].owner))
 }
 
 #[tactic(auto, using(base::proofs::Choices::taken, base::proofs::Choices::left), unfolding(crate::specs::Inherited::link_of, kernel::specs::Control::holds_task))]
 fn link_of(
-    t: TaskControl,
-    mutexes: [Mutex; Kernel::OBJECTS],
-    owners: [Option<usize>; Kernel::OBJECTS],
+    t: &TaskControl,
+    mutexes: &[Mutex; Kernel::OBJECTS],
+    owners: &[Option<usize>; Kernel::OBJECTS],
 ) -> Option<usize>
-    ensures { result ≡ link_of t mutexes owners }
+    ensures { result ≡ link_of t.now mutexes.now owners.now }
 {
     if !(t.occupied & t.is_blocked()) {
         return None;
@@ -62,12 +64,11 @@ fn link_of(
     owners[m]
 }
 
-fn links(k: Kernel) -> [Option<usize>; Kernel::MAX_TASKS]
-    ensures { result ≡ tabulate (λ j. some_slot (link k j)) 16 }
+fn links(k: &Kernel) -> [Option<usize>; Kernel::MAX_TASKS]
+    ensures { result ≡ tabulate (λ j. some_slot (link k.now j)) 16 }
 {
     let owners = owner_slots(k);
-    let mutexes = k.mutexes;
-    k.tasks.map(|t| link_of(t, mutexes, owners))
+    array::from_fn(|i| link_of(&k.tasks[i], &k.mutexes, &owners))
 }
 
 // ---- chains
@@ -131,16 +132,16 @@ fn inherited(
     ranks
 }
 
-fn own_numbers(k: Kernel) -> [u8; Kernel::MAX_TASKS]
-    ensures { result ≡ tabulate (priority_of k) 16 }
+fn own_numbers(k: &Kernel) -> [u8; Kernel::MAX_TASKS]
+    ensures { result ≡ tabulate (priority_of k.now) 16 }
 {
-    k.tasks.map(|t| t.priority.0)
+    array::from_fn(|i| k.tasks[i].priority.0)
 }
 
 // The rank of each slot.
 pub fn ranks(k: Kernel) -> [u8; Kernel::MAX_TASKS]
     ensures { Each 16 (rank k) result }
 {
-    let own = own_numbers(k);
-    inherited(links(k), own)
+    let own = own_numbers(&k);
+    inherited(links(&k), own)
 }

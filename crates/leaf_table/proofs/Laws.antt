@@ -38,23 +38,23 @@ slot_wakes k a s e =
     (λ f. rw f at (wake_is a k)))
 
 -- how the checks of a call begin: on an object, where it needs the kernel started, and both
-abbrev pub object_checks : Kernel → ℕ → List Check
-object_checks k o = not_whole k ∷ no_object o ∷ []
+abbrev pub early_object_checks : Kernel → ℕ → List Check
+early_object_checks k o = not_whole k ∷ no_object o ∷ []
 
 abbrev pub started_checks : Kernel → List Check
 started_checks k = not_whole k ∷ not_started k ∷ []
 
-abbrev pub started_object_checks : Kernel → ℕ → List Check
-started_object_checks k o = not_whole k ∷ no_object o ∷ not_started k ∷ []
+abbrev pub object_checks : Kernel → ℕ → List Check
+object_checks k o = not_whole k ∷ no_object o ∷ not_started k ∷ []
 
 pub passed_started : (k : Kernel) → 0 ≡ first_of (started_checks k) → Whole k
 passed_started k e = is_whole k (not_clear _ (passed (started_checks k) 0 refl (sym e)))
 
-pub passed_object : (k : Kernel) (o : ℕ) → 0 ≡ first_of (object_checks k o) → Whole k × (o < 4)
-passed_object k o e = (is_whole k (not_clear _ (passed (object_checks k o) 0 refl (sym e))), omega (arith, ltb-false 3 o (passed (object_checks k o) 1 refl (sym e))))
+pub passed_object : (k : Kernel) (o : ℕ) → 0 ≡ first_of (early_object_checks k o) → Whole k × (o < 4)
+passed_object k o e = (is_whole k (not_clear _ (passed (early_object_checks k o) 0 refl (sym e))), omega (arith, ltb-false 3 o (passed (early_object_checks k o) 1 refl (sym e))))
 
-pub passed_started_object : (k : Kernel) (o : ℕ) → 0 ≡ first_of (started_object_checks k o) → Whole k × (o < 4)
-passed_started_object k o e = (is_whole k (not_clear _ (passed (started_object_checks k o) 0 refl (sym e))), omega (arith, ltb-false 3 o (passed (started_object_checks k o) 1 refl (sym e))))
+pub passed_started_object : (k : Kernel) (o : ℕ) → 0 ≡ first_of (object_checks k o) → Whole k × (o < 4)
+passed_started_object k o e = (is_whole k (not_clear _ (passed (object_checks k o) 0 refl (sym e))), omega (arith, ltb-false 3 o (passed (object_checks k o) 1 refl (sym e))))
 
 pub passed_whole : (k : Kernel) → 0 ≡ first_of (not_whole k ∷ []) → whole k ≡ true
 passed_whole k e = not_clear _ (passed (not_whole k ∷ []) 0 refl (sym e))

@@ -83,11 +83,7 @@ fn ticks_to_ms(kernel: Kernel, k: u8, y: u32) -> Answer
 pub fn no_call(k: Kernel) -> Answer
     ensures { result ≡ refused 0xff k }
 {
-    Answer {
-        number: NO_CALL,
-        value: Value::Nothing,
-        kernel: k,
-    }
+    answer::refused(NO_CALL, k)
 }
 
 // What the line adds to its answer is put into `out`.

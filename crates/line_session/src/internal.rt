@@ -54,8 +54,9 @@ fn end_line(
         out: added,
         at: len,
     } = adds;
+    let kernel = a.kernel;
     put_reply(tables, a, &added[..len], out);
-    a.kernel
+    kernel
 }
 
 pub fn play(s: Session, tables: bool, input: &[u8], arena: &mut [u32], out: &mut [u8]) -> Played

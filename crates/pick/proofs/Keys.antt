@@ -1,13 +1,14 @@
 -- A search of the keys is the pick: the slots of the smallest key below 256 are the best ones, and with no such key none is Ready.
 use Prim.Native.Nat.{ℕ, zero, suc, ◌+◌, ◌≤◌, ◌<◌, zero-le, min}
 use native.Mathlib.Omega.{arith}
-use mathlib.Core.Path.{◌≡◌, refl, sym, subst}
-use mathlib.Core.Bool.{Bool, true, false, ◌&&◌, not}
-use mathlib.Core.List.{List}
+use mathlib.Core.Path.{◌≡◌, refl, sym, ◌∙◌}
+use mathlib.Core.Bool.{Bool, true, false, ◌&&◌, ◌||◌, not}
+use mathlib.Core.List.{List, [], ◌∷◌}
 use lib.Dec.{eqb, ltb}
 use lib.ListN.{get_or}
 use denote.Param.Members.{Mut, Called}
-use Rattle.std.specs.Array.{IsFromFnResult, IsFromFnResultFrom}
+use Rattle.std.specs.Array.{IsFromFnResult}
+use Rattle.std.specs.List.{list_any, fold}
 use native.Mathlib.Nat.{le_refl}
 use native.Mathlib.Decide.{dec_lt}
 use borrow.Author.Tests.{lt-ltb, le-ltb, ltb-false, eqb-true, eq-eqb, ne_eqb}
@@ -18,6 +19,7 @@ use Rattle.base.proofs.Choices.{and_right, same_test}
 use Rattle.base.proofs.Loops.{all_at, all_each, lowest_same, lowest_is, lowest_next, lowest_here, Upto, search_start, search_more, search_found, search_done}
 use Rattle.kernel.specs.Scheduler.{slot_after, is_best, pick}
 use Rattle.kernel.proofs.Pick.{around_lt, pick_same}
+use Rattle.leaf_rank.proofs.Made.{each_made}
 use Rattle.pick.specs.Keys.{IsKey, IsLeast, key_distance, first_from}
 
 -- no key yet, and one more
@@ -119,23 +121,29 @@ module _ (keys : List ℕ) (c best : ℕ) where
       let d : 16 ≡ key_distance keys c best = search_done _ 16 n u h in
       rw (← d)
 
+-- ---- a test of each byte, taken up without a way out
+
+or_more : (a b c : Bool) → ((a || b) || c) ≡ (a || (b || c))
+or_more true b c = refl
+or_more false b c = refl
+
+or_none : (a : Bool) → a ≡ (a || false)
+or_none true = refl
+or_none false = refl
+
+folded : {A : Type 0} (p : A → Bool) (xs : List A) (a : Bool) → fold (λ b x. b || p x) a xs ≡ (a || list_any p xs)
+folded p [] a = or_none a
+folded p (x ∷ xs) a = folded p xs (a || p x) ∙ or_more a (p x) (list_any p xs)
+
+pub any_folded : {A : Type 0} (p : A → Bool) (xs : List A) → fold (λ b x. b || p x) false xs ≡ list_any p xs
+any_folded p xs = folded p xs false
+
 -- ---- the keys, made slot by slot
 
 -- a closure that stays as it is, and whose results at each number have P
 module _ {F : Type 0} (g : Mut F (ℕ × Unit {0}) ℕ) (f : F) (P : ℕ → ℕ → Type 0) (makes : (i y : ℕ) (q : F) → Called g f (i, tt) y q → (q ≡ f) × P i y) where
-  made_from : (ys : List ℕ) (i n j : ℕ) (h : F) → h ≡ f → IsFromFnResultFrom g h ys i n → i ≤ j → j < i + n → P j (get_or ys j 0)
-  made_from ys i zero j h e m a b = absurd (omega arith)
-  made_from ys i (suc n) j h e m a b =
-      let call = makes i m.1 m.0 (subst (λ k. Called g k (i, tt) m.1 m.0) e m.3) in
-      elim (dec_lt i j) [
-        | yes l ↦ made_from ys (i + 1) n j m.0 call.0 m.4 (omega arith) (omega arith)
-        | no l ↦
-            let is : j ≡ i = omega arith in
-            rw (is, m.2.1 0) call.1
-      ]
-
   pub made : (ys : List ℕ) (n : ℕ) → IsFromFnResult g f ys n → (i : ℕ) → i < n → P i (get_or ys i 0)
-  made ys n m i h = made_from ys 0 n i f refl m.each zero-le (omega arith)
+  made ys n m i h = each_made g f 0 P makes ys n m i h
 
 -- a pick by the keys is the pick of the table
 pub keys_pick : (ready : ℕ → Bool) (rank : ℕ → ℕ) (keys : List ℕ) → ((i : ℕ) → i < 16 → IsKey (ready i) (rank i) (get_or keys i 0)) → (c : ℕ) → pick (λ i. ltb (get_or keys i 0) 256) (λ i. get_or keys i 0) c ≡ pick ready rank c

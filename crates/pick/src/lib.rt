@@ -87,7 +87,8 @@ fn any_unknown(states: &[u8]) -> bool
     requires { length states.now ≡ 16 }
     ensures { result ≡ any_below (λ i. ltb 6 (get_or states.now i 0)) 16 }
 {
-    states.iter().any(|s| EMPTY < *s)
+    // Without a way out early, so that all sixteen are looked at together.
+    states.iter().fold(false, |found, s| found | (EMPTY < *s))
 }
 
 // The slot picked; none for refusal 22.

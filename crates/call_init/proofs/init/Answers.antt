@@ -12,7 +12,7 @@ unfolding init init_words
 returns-in-Err c =
     let n = refused_number _ _ _ c.check_init.ensures c.in-Err.is in
     let z = via_ne _ _ 0 n (nonzero_refusal c.in-Err.refusal) in (
-      left _ _ _ _ z (rw (← n, c.refused.ensures, c.blank.ensures)),
+      left _ _ _ _ z (rw (← n, c.refused_by.ensures, c.blank.ensures)),
       left _ _ _ _ z refl,
     )
 

@@ -10,7 +10,7 @@ use Rattle.call_list.proofs.tasks.Goals as goal
 pub returns-in-Err : goal.returns-in-Err
 returns-in-Err c =
     let n = c.check_list.ensures c.args.records.now refl in
-    (step_refused _ (Calls.list _ _) _ _ _ n c.in-Err.is c.refused.ensures, list_kept _ _ _ _ _ n c.in-Err.is)
+    (step_refused _ (Calls.list _ _) _ _ _ n c.in-Err.is c.refused_by.ensures, list_kept _ _ _ _ _ n c.in-Err.is)
 
 pub write_records-requires : goal.write_records-requires
 write_records-requires c = list_accepted _ _ _ (accepted_number _ _ _ (c.check_list.ensures c.args.records.now refl) c.in_default.is)

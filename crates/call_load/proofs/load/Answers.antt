@@ -39,7 +39,7 @@ thousandfold-p-requires c =
     rw (c.in-Ok.ensures.found.0, c.in-Ok.ensures.found.1) (some_tick _ _ e, charge_fits _ _ e)
 
 pub returns-in-Err : goal.returns-in-Err
-returns-in-Err c = step_refused _ (Calls.load _) _ _ _ c.check_load.ensures.number c.in-Err.is c.refused.ensures
+returns-in-Err c = step_refused _ (Calls.load _) _ _ _ c.check_load.ensures.number c.in-Err.is c.refused_by.ensures
 
 pub returns-in-Ok : goal.returns-in-Ok
 unfolding value effect

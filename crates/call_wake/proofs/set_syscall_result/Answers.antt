@@ -9,7 +9,7 @@ use Rattle.kernel.proofs.Step.{step_refused, step_accepted}
 use Rattle.call_wake.proofs.set_syscall_result.Goals as goal
 
 pub returns-in-Err : goal.returns-in-Err
-returns-in-Err c = step_refused _ (Calls.result c.args.id c.args.value) _ _ _ (c.check_result.ensures.number c.args.value) c.in-Err.is c.refused.ensures
+returns-in-Err c = step_refused _ (Calls.result c.args.id c.args.value) _ _ _ (c.check_result.ensures.number c.args.value) c.in-Err.is c.refused_by.ensures
 
 pub returns-in-Ok : goal.returns-in-Ok
 unfolding value effect at_id if◌then◌otherwise◌

@@ -9,14 +9,21 @@ ghost use Rattle.kernel.specs.Calls.{refused, accepted};
 use kernel::control::TaskState;
 use kernel::scheduler::{Answer, Kernel, Refusal, Value};
 
-pub fn refused(refusal: Refusal, kernel: Kernel) -> Answer
-    ensures { result ≡ refused (refusal_number refusal) kernel }
+pub fn refused(number: u8, kernel: Kernel) -> Answer
+    ensures { result ≡ refused number kernel }
 {
     Answer {
-        number: refusal.number(),
+        number,
         value: Value::Nothing,
         kernel,
     }
+}
+
+// With the refusal's number.
+pub fn refused_by(refusal: Refusal, kernel: Kernel) -> Answer
+    ensures { result ≡ refused (refusal_number refusal) kernel }
+{
+    refused(refusal.number(), kernel)
 }
 
 pub fn accepted(value: Value, kernel: Kernel) -> Answer

@@ -6,7 +6,7 @@ use Rattle.kernel.proofs.Step.{step_refused, step_accepted}
 use Rattle.call_acquire.proofs.internal.acquire_within.Goals as goal
 
 pub returns-in-Err : goal.returns-in-Err
-returns-in-Err c = step_refused _ (acquire_within _ _) _ _ _ c.check_acquire_within.ensures c.in-Err.is c.refused.ensures
+returns-in-Err c = step_refused _ (acquire_within _ _) _ _ _ c.check_acquire_within.ensures c.in-Err.is c.refused_by.ensures
 
 pub has_permit-got-requires : goal.has_permit-got-requires
 has_permit-got-requires c = accepted_object _ (acquire_within _ _) _ _ (sym c.in_default.ensures) refl

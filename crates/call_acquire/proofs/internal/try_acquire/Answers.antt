@@ -6,7 +6,7 @@ use Rattle.call_acquire.proofs.internal.try_acquire.Goals as goal
 
 pub returns-in-Err : goal.returns-in-Err
 unfolding number
-returns-in-Err c = step_refused _ (try_acquire _) _ _ _ c.check_object.ensures c.in-Err.is c.refused.ensures
+returns-in-Err c = step_refused _ (try_acquire _) _ _ _ c.check_object.ensures c.in-Err.is c.refused_by.ensures
 
 pub has_permit-got-requires : goal.has_permit-got-requires
 has_permit-got-requires c = (passed_object _ _ c.in_default.ensures).1

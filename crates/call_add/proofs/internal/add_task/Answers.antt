@@ -14,7 +14,7 @@ unfolding add_words
 returns-in-Err c =
     let a = c.args in
     let n = c.check_add.ensures.number a.arena.now a.priority refl in (
-      step_refused a.k (Calls.add a.arena.now a.priority a.region) _ _ _ n c.in-Err.is c.refused.ensures,
+      step_refused a.k (Calls.add a.arena.now a.priority a.region) _ _ _ n c.in-Err.is c.refused_by.ensures,
       left _ _ _ _ (via_ne _ _ 0 (refused_number _ _ _ n c.in-Err.is) (nonzero_refusal c.in-Err.refusal)) refl,
     )
 

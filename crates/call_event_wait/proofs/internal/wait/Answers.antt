@@ -6,7 +6,7 @@ use Rattle.kernel.proofs.Step.{step_refused, step_accepted}
 use Rattle.call_event_wait.proofs.internal.wait.Goals as goal
 
 pub returns-in-Err : goal.returns-in-Err
-returns-in-Err c = step_refused _ (event_wait _) _ _ _ c.check_wait.ensures c.in-Err.is c.refused.ensures
+returns-in-Err c = step_refused _ (event_wait _) _ _ _ c.check_wait.ensures c.in-Err.is c.refused_by.ensures
 
 pub offset_bounds-k-e : goal.offset_bounds-k-e
 offset_bounds-k-e c =

@@ -8,7 +8,7 @@ use Rattle.call_lock.proofs.Laws.{current_owned}
 use Rattle.call_lock.proofs.internal.lock.Goals as goal
 
 pub returns-in-Err : goal.returns-in-Err
-returns-in-Err c = step_refused _ (lock _) _ _ _ c.check_lock.ensures c.in-Err.is c.refused.ensures
+returns-in-Err c = step_refused _ (lock _) _ _ _ c.check_lock.ensures c.in-Err.is c.refused_by.ensures
 
 pub lock_got-requires : goal.lock_got-requires
 lock_got-requires c =

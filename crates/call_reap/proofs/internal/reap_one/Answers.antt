@@ -11,7 +11,7 @@ use Rattle.call_reap.proofs.internal.reap_one.Goals as goal
 
 pub returns-in-Err : goal.returns-in-Err
 unfolding number
-returns-in-Err c = step_refused _ reap_one _ _ _ c.check.ensures c.in-Err.is c.refused.ensures
+returns-in-Err c = step_refused _ reap_one _ _ _ c.check.ensures c.in-Err.is c.refused_by.ensures
 
 pub reaped-requires : goal.reaped-requires
 unfolding number

@@ -12,4 +12,4 @@ reaped-requires c =
     (c.in-Ok.ensures.below, h.0, h.1)
 
 pub returns-in-Err : goal.returns-in-Err
-returns-in-Err c = step_refused _ (reap c.args.id) _ _ _ c.check_reap.ensures.number c.in-Err.is c.refused.ensures
+returns-in-Err c = step_refused _ (reap c.args.id) _ _ _ c.check_reap.ensures.number c.in-Err.is c.refused_by.ensures

@@ -7,7 +7,7 @@ use Rattle.call_release.proofs.Laws.{release_count}
 use Rattle.call_release.proofs.internal.release.Goals as goal
 
 pub returns-in-Err : goal.returns-in-Err
-returns-in-Err c = step_refused _ (release _) _ _ _ c.check_release.ensures c.in-Err.is c.refused.ensures
+returns-in-Err c = step_refused _ (release _) _ _ _ c.check_release.ensures c.in-Err.is c.refused_by.ensures
 
 pub released-requires : goal.released-requires
 released-requires c =

@@ -6,7 +6,7 @@ use Rattle.call_signal.proofs.internal.signal.Goals as goal
 
 pub returns-in-Err : goal.returns-in-Err
 unfolding number
-returns-in-Err c = step_refused _ (signal _) _ _ _ c.check_object.ensures c.in-Err.is c.refused.ensures
+returns-in-Err c = step_refused _ (signal _) _ _ _ c.check_object.ensures c.in-Err.is c.refused_by.ensures
 
 pub signalled-requires : goal.signalled-requires
 signalled-requires c = (passed_object _ _ c.in_default.ensures).1

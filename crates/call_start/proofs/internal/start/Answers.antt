@@ -6,7 +6,7 @@ use Rattle.kernel.proofs.Step.{step_refused}
 use Rattle.call_start.proofs.internal.start.Goals as goal
 
 pub returns-in-Err : goal.returns-in-Err
-returns-in-Err c = step_refused _ Calls.start _ _ _ c.check_start.ensures c.in-Err.is c.refused.ensures
+returns-in-Err c = step_refused _ Calls.start _ _ _ c.check_start.ensures c.in-Err.is c.refused_by.ensures
 
 pub started-requires : goal.started-requires
 started-requires c = (accepted_is _ Calls.start (accepted_number _ _ _ c.check_start.ensures c.in_default.is)).current_slot

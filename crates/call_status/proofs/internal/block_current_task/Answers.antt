@@ -7,7 +7,7 @@ use Rattle.call_status.proofs.internal.block_current_task.Goals as goal
 
 pub returns-in-Err : goal.returns-in-Err
 unfolding number
-returns-in-Err c = step_refused _ Calls.block _ _ _ c.check_started.ensures c.in-Err.is c.refused.ensures
+returns-in-Err c = step_refused _ Calls.block _ _ _ c.check_started.ensures c.in-Err.is c.refused_by.ensures
 
 pub set_status-requires : goal.set_status-requires
 set_status-requires c = (passed_started _ c.in_default.ensures).current_slot

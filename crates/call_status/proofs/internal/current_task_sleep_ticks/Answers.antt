@@ -7,7 +7,7 @@ use Rattle.call_status.proofs.internal.current_task_sleep_ticks.Goals as goal
 
 pub returns-in-Err : goal.returns-in-Err
 unfolding number
-returns-in-Err c = step_refused _ (Calls.sleep c.args.ticks) _ _ _ c.check_started.ensures c.in-Err.is c.refused.ensures
+returns-in-Err c = step_refused _ (Calls.sleep c.args.ticks) _ _ _ c.check_started.ensures c.in-Err.is c.refused_by.ensures
 
 pub put_to_sleep-requires : goal.put_to_sleep-requires
 put_to_sleep-requires c = (passed_started _ c.in_default.ensures).current_slot

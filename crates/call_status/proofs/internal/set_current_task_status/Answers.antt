@@ -9,4 +9,4 @@ pub set_status-requires : goal.set_status-requires
 set_status-requires c = (accepted_is _ (Calls.status _) (sym c.in-Ok.ensures.number)).current_slot
 
 pub returns-in-Err : goal.returns-in-Err
-returns-in-Err c = step_refused _ (Calls.status _) _ _ _ c.check_status.ensures.number c.in-Err.is c.refused.ensures
+returns-in-Err c = step_refused _ (Calls.status _) _ _ _ c.check_status.ensures.number c.in-Err.is c.refused_by.ensures

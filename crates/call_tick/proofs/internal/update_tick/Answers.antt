@@ -15,10 +15,10 @@ unfolding number
 returns-in-Err c =
     step_refused _ Calls.tick c.check.result _ _
     (refused_early (not_whole c.args.k ∷ []) (checks c.args.k Calls.tick) _ c.check.ensures (rw c.in-Err.is (nonzero_refusal _)))
-    c.in-Err.is c.refused.ensures
+    c.in-Err.is c.refused_by.ensures
 
 pub returns-then-k : goal.returns-then-k
-returns-then-k c = at_last_tick _ _ c.in_default.ensures c.if-k.true c.refused-then-k.ensures
+returns-then-k c = at_last_tick _ _ c.in_default.ensures c.if-k.true c.refused_by-then-k.ensures
 
 pub ticked-requires : goal.ticked-requires
 ticked-requires c =

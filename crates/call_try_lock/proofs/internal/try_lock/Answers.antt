@@ -9,7 +9,7 @@ use Rattle.call_try_lock.proofs.internal.try_lock.Goals as goal
 pub returns-in-Err : goal.returns-in-Err
 unfolding number
 returns-in-Err c =
-    step_refused c.args.k (try_lock c.args.m) _ _ _ c.check_started_object.ensures c.in-Err.is c.refused.ensures
+    step_refused c.args.k (try_lock c.args.m) _ _ _ c.check_started_object.ensures c.in-Err.is c.refused_by.ensures
 
 pub offset_bounds-k-m : goal.offset_bounds-k-m
 offset_bounds-k-m c =

@@ -7,7 +7,7 @@ use Rattle.kernel.proofs.Accepted.{accepted_is, accepted_object}
 use Rattle.call_unlock.proofs.internal.unlock.Goals as goal
 
 pub returns-in-Err : goal.returns-in-Err
-returns-in-Err c = step_refused _ (unlock _) _ _ _ c.check_unlock.ensures c.in-Err.is c.refused.ensures
+returns-in-Err c = step_refused _ (unlock _) _ _ _ c.check_unlock.ensures c.in-Err.is c.refused_by.ensures
 
 pub offset_bounds-k-m : goal.offset_bounds-k-m
 offset_bounds-k-m c =

@@ -11,4 +11,4 @@ waited-requires c =
     ((accepted_is _ (wait _) e).current_slot, c.in-Ok.ensures.slot, wait_found _ _ e)
 
 pub returns-in-Err : goal.returns-in-Err
-returns-in-Err c = step_refused _ (wait c.args.id) _ _ _ c.check_wait.ensures.number c.in-Err.is c.refused.ensures
+returns-in-Err c = step_refused _ (wait c.args.id) _ _ _ c.check_wait.ensures.number c.in-Err.is c.refused_by.ensures

@@ -5,4 +5,4 @@ use Rattle.call_wake.proofs.internal.wake_task.Goals as goal
 
 pub returns-in-Err : goal.returns-in-Err
 unfolding number
-returns-in-Err c = step_refused _ (wake c.args.id) _ _ _ c.check.ensures c.in-Err.is c.refused.ensures
+returns-in-Err c = step_refused _ (wake c.args.id) _ _ _ c.check.ensures c.in-Err.is c.refused_by.ensures

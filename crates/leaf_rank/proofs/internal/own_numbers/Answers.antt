@@ -1,8 +1,8 @@
 -- Each slot's number.
-use Rattle.std.proofs.Common.{refl, rules}
-use Rattle.base.proofs.Lists.{mapped_all}
-use Rattle.kernel.specs.Control.{blank_slot}
+use Rattle.std.proofs.Common.{rules}
+use Rattle.kernel.specs.Rank.{priority_of}
+use Rattle.leaf_rank.proofs.Made.{all_made}
 use Rattle.leaf_rank.proofs.internal.own_numbers.Goals as goal
 
 pub returns : goal.returns
-returns c = mapped_all _ (λ t. t.priority.0) _ (λ x y q k. search rules) c.args.k.tasks _ blank_slot 0 _ 16 c.map.ensures.items (λ i l. refl)
+returns c = all_made _ _ 0 (priority_of c.args.k.now) (λ i y q k. search rules) _ 16 c.from_fn.ensures.items

@@ -21,5 +21,5 @@ returns c =
     all_each_below _ k.semaphores _ 4 (search (unmapped, rules)) in
     let events : list_all (λ e. leb e.waiters.len 8) k.events ≡ all_below (λ o. leb (event k o).waiters.len 8) 4 =
     all_each_below _ k.events _ 4 (search (unmapped, rules)) in
-    rw (c.limits_whole.ensures ∙ all_each_below _ k.tasks blank_slot 16 tasks, c.is_some.ensures ∙ c.uncharged.ensures, c.owned_whole.ensures ∙ all_each_below _ k.tasks blank_slot 16 tasks, c.occupied.ensures ∙ count_each_below _ k.tasks blank_slot 16 tasks, c.queues_whole.ensures, list_all-append, list_all-append, list_all-map _ (λ m. m.waiters) k.mutexes, list_all-map _ (λ s. s.waiters) k.semaphores, list_all-map, mutexes, semaphores, events, all_both, all_both, c.regions_whole.ensures ∙ all_each_below _ k.tasks blank_slot 16 tasks, c.is_occupied-2.ensures, c.is_occupied.ensures, c.arena_fits.ensures)
+    rw (c.limits_whole.ensures ∙ all_each_below _ k.tasks blank_slot 16 tasks, c.is_some-charged.ensures ∙ c.uncharged.ensures, c.owned_whole.ensures ∙ all_each_below _ k.tasks blank_slot 16 tasks, c.occupied.ensures ∙ count_each_below _ k.tasks blank_slot 16 tasks, c.queues_whole.ensures, list_all-append, list_all-append, list_all-map _ (λ m. m.waiters.len) k.mutexes, list_all-map _ (λ s. s.waiters.len) k.semaphores, list_all-map, mutexes, semaphores, events, all_both, all_both, c.regions_whole.ensures ∙ all_each_below _ k.tasks blank_slot 16 tasks, c.is_occupied-2.ensures, c.is_occupied.ensures, c.arena_fits.ensures)
     (joined_every _ (_ ∷ _ ∷ _ ∷ _ ∷ _ ∷ _ ∷ _ ∷ _ ∷ _ ∷ _ ∷ []))
